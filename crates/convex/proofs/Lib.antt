@@ -1,0 +1,14 @@
+pub mod Combs
+pub mod Fractions
+pub mod Simplices
+pub mod Hulls
+pub mod Members
+pub mod Progress
+pub mod Stopping
+pub mod Independent
+pub mod Descent
+pub mod Faces
+pub mod Measure
+pub mod Carriers
+pub mod Rounds
+pub mod Lowest

@@ -1,0 +1,5 @@
+pub mod Fractions
+pub mod Means
+pub mod Hulls
+pub mod Simplices
+pub mod Lowest

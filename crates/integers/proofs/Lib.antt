@@ -1,0 +1,10 @@
+pub mod Laws
+pub mod Solver
+pub mod Vectors
+pub mod Order
+pub mod Certs
+pub mod VectorCerts
+pub mod Squares
+pub mod Overflow
+pub mod Environments
+pub mod Divisors

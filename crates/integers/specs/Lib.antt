@@ -1,0 +1,4 @@
+pub mod Points
+pub mod Space
+pub mod Bounds
+pub mod Divisors
