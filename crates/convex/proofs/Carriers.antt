@@ -2,7 +2,7 @@
 use mathlib.Core.Path.{_≡_, refl, sym, subst}
 use mathlib.Core.Logic.{_⊎_, inl, inr}
 use mathlib.Core.List.{List, [], _∷_, _++_}
-use Prim.Native.Nat.{ℕ, zero, suc, _≤_, _<_}
+use Prim.Native.Nat.{ℕ, zero, suc, _<_}
 use native.Mathlib.Nat.{eq-or-lt-of-le}
 use native.Mathlib.Omega.{arith}
 use lib.ListN.{length, getD}
@@ -16,7 +16,7 @@ use Rattle.integers.proofs.Order.{<ℤ→≤ℤ}
 use Rattle.convex.specs.Fractions.{Frac, Shorter, NoLonger}
 use Rattle.convex.specs.Means.{Mean}
 use Rattle.convex.specs.Hulls.{Shortest, without}
-use Rattle.convex.specs.Simplices.{weights, foot, extent, footing, Carries}
+use Rattle.convex.specs.Simplices.{weights, foot, extent, footing, Independent, Carries}
 use Rattle.convex.proofs.Combs.{length-without, all-without}
 use Rattle.convex.proofs.Fractions.{no-longer-trans}
 use Rattle.convex.proofs.Hulls.{foot-shortest}
@@ -27,16 +27,16 @@ use Rattle.convex.proofs.Progress.{progress-push}
 use Rattle.convex.proofs.Faces.{faces-shortest}
 
 -- with positive weights the foot is the shortest mean
-pub foot-carried : (S : List Pt) → 1 ≤ length S → length S ≤ 4 → pos 0 <ℤ extent S → All (λ k. pos 0 <ℤ k) (weights S) → Shortest S (footing S)
-foot-carried S p q h k = foot-shortest (foot-of S p q) h (all-weaker _ _ (λ _. <ℤ→≤ℤ) (weights S) k)
+foot-carried : (S : List Pt) → Independent S → All (λ k. pos 0 <ℤ k) (weights S) → Shortest S (footing S)
+foot-carried S i k = foot-shortest (foot-of S (i .some) (i .few)) (i .apart) (all-weaker _ _ (λ _. <ℤ→≤ℤ) (weights S) k)
 
 -- so the points carry themselves
-pub carries-itself : (S : List Pt) → 1 ≤ length S → length S ≤ 4 → pos 0 <ℤ extent S → All (λ k. pos 0 <ℤ k) (weights S) → Carries S S
-carries-itself S p q h k = record { among = all-has-itself S; some = p; few = q; independent = h; inside = k; shortest = foot-carried S p q h k }
+pub carries-itself : (S : List Pt) → Independent S → All (λ k. pos 0 <ℤ k) (weights S) → Carries S S
+carries-itself S i k = record { among = all-has-itself S; independent = i; inside = k; shortest = foot-carried S i k }
 
 -- what carries others is a mean of itself
 pub carries-reached : {S ys : List Pt} → Carries S ys → Mean S (footing S)
-carries-reached {S} c = foot-carried S (c .some) (c .few) (c .independent) (c .inside) .reached
+carries-reached {S} c = foot-carried S (c .independent) (c .inside) .reached
 
 -- the next carrier, with a corner on the near side of the foot, is shorter
 pub carries-next : {S T ys : List Pt} (w : Pt) → Carries S ys → (extent S *ℤ dot (foot S) w) <ℤ dot (foot S) (foot S) → Carries T (S ++ w ∷ []) → Shorter (footing T) (footing S)
@@ -70,23 +70,21 @@ module _ (ys : List Pt) (n : ℕ) where
   best-next S T b from older newer = which from
     where
       under : (k : ℕ) → k < suc n → Under T k
-      under = one-more T (λ k l o y m. no-longer-trans (footing T) (footing S) y (b .face .independent) older (b .covers k l o y m)) newer
+      under = one-more T (λ k l o y m. no-longer-trans (footing T) (footing S) y (b .face .independent .apart) older (b .covers k l o y m)) newer
 
       which : (T ≡ S) ⊎ Carries T (without n ys) → Best ys (suc n) T
       which (inl e) = record { i = b .i; face = subst (λ t. Carries t (without (b .i) ys)) (sym e) (b .face); covers = under }
       which (inr c) = record { i = n; face = c; covers = under }
 
 -- all of them: it carries the whole
-pub best-done : (ys S : List Pt) → 1 ≤ length ys → length ys ≤ 4 → pos 0 <ℤ extent ys → (j : ℕ) → j < length ys → getD (weights ys) j (pos 0) ≤ℤ pos 0 → Best ys (length ys) S → Carries S ys
-best-done ys S p q h j j< o b =
+pub best-done : (ys S : List Pt) → Independent ys → (j : ℕ) → j < length ys → getD (weights ys) j (pos 0) ≤ℤ pos 0 → Best ys (length ys) S → Carries S ys
+best-done ys S i j j< o b =
     let c = b .face in
     record {
       among = all-weaker _ _ (λ x l. all-has (Has ys) (without (b .i) ys) x (all-without (Has ys) (b .i) ys (all-has-itself ys)) l) S (c .among);
-      some = c .some;
-      few = c .few;
       independent = c .independent;
       inside = c .inside;
-      shortest = faces-shortest (foot-of ys p q) h j j< o (footing S) (mean-without (b .i) (c .shortest .reached)) (b .covers);
+      shortest = faces-shortest (foot-of ys (i .some) (i .few)) (i .apart) j j< o (footing S) (mean-without (b .i) (c .shortest .reached)) (b .covers);
     }
 
 -- ---- independent points have a carrier
@@ -108,19 +106,19 @@ best-of ys face (suc n) l = let (T, c) = face (suc n) l in let (S, b) = best-of 
     shorter-of S T b c =
         by-ltZ (dot (foot T) (foot T) *ℤ (extent S *ℤ extent S)) (dot (foot S) (foot S) *ℤ (extent T *ℤ extent T))
         (λ l. (T, best-next ys (suc n) S T b (inr c) (<ℤ→≤ℤ l) (λ _. c .shortest .least)))
-        (λ l. (S, best-next ys (suc n) S S b (inl refl) (≤ℤ-refl _) (λ _ y m. no-longer-trans (footing S) (footing T) y (c .independent) l (c .shortest .least y m))))
+        (λ l. (S, best-next ys (suc n) S S b (inl refl) (≤ℤ-refl _) (λ _ y m. no-longer-trans (footing S) (footing T) y (c .independent .apart) l (c .shortest .least y m))))
 
-carrier-of : (n : ℕ) (ys : List Pt) → length ys ≡ suc n → length ys ≤ 4 → pos 0 <ℤ extent ys → (S : List Pt) × Carries S ys
-carrier-of zero [] e q h = absurd (omega arith)
-carrier-of zero (a ∷ []) e q h = (a ∷ [], carries-itself (a ∷ []) (omega arith) q h (omega (arith, ints), tt))
-carrier-of zero (a ∷ (b ∷ ys)) e q h = absurd (omega arith)
-carrier-of (suc n) ys e q h = ways (positive-or-not (weights ys)) (λ i l. carrier-of n (without i ys) (omega (arith, length-without i ys l)) (omega (arith, length-without i ys l)) (independent-without ys i (omega arith) q l h))
+carrier-of : (n : ℕ) (ys : List Pt) → length ys ≡ suc n → Independent ys → (S : List Pt) × Carries S ys
+carrier-of zero [] e h = absurd (omega arith)
+carrier-of zero (a ∷ []) e h = (a ∷ [], carries-itself (a ∷ []) h (omega (arith, ints), tt))
+carrier-of zero (a ∷ (b ∷ ys)) e h = absurd (omega arith)
+carrier-of (suc n) ys e h = ways (positive-or-not (weights ys)) (λ i l. carrier-of n (without i ys) (omega (arith, length-without i ys l)) (independent-without ys i (omega arith) l h))
   where
     ways : All (λ k. pos 0 <ℤ k) (weights ys) ⊎ ((j : ℕ) × (j < length (weights ys)) × (getD (weights ys) j (pos 0) ≤ℤ pos 0)) → ((i : ℕ) → i < length ys → (S : List Pt) × Carries S (without i ys)) → (S : List Pt) × Carries S ys
-    ways (inl k) face = (ys, carries-itself ys (omega arith) q h k)
-    ways (inr (j, l, o)) face = let (S, b) = best-of ys face (suc n) (omega arith) in (S, best-done ys S (omega arith) q h j (omega (arith, foot-of ys (omega arith) q .one-each)) o (subst (λ m. Best ys m S) (sym e) b))
+    ways (inl k) face = (ys, carries-itself ys h k)
+    ways (inr (j, l, o)) face = let (S, b) = best-of ys face (suc n) (omega arith) in (S, best-done ys S h j (omega (arith, foot-of ys (h .some) (h .few) .one-each)) o (subst (λ m. Best ys m S) (sym e) b))
 
--- one to four independent points have a carrier
-pub carrier : (ys : List Pt) → 1 ≤ length ys → length ys ≤ 4 → pos 0 <ℤ extent ys → (S : List Pt) × Carries S ys
-carrier [] p q h = absurd (omega arith)
-carrier (y ∷ ys) p q h = carrier-of (length ys) (y ∷ ys) refl q h
+-- independent points have a carrier
+pub carrier : (ys : List Pt) → Independent ys → (S : List Pt) × Carries S ys
+carrier [] h = absurd (omega (arith, h .some))
+carrier (y ∷ ys) h = carrier-of (length ys) (y ∷ ys) refl h

@@ -17,6 +17,7 @@ use Rattle.integers.proofs.Certs.{prove≤, prove≡, _⊠_, nn, le, by-eq, num
 use Rattle.convex.specs.Means.{sumOf, total, Weights}
 use Rattle.convex.specs.Hulls.{comb, totalℤ, without}
 
+-- no weight is negative
 abbrev pub Nonneg : List ℤ → Type 0
 Nonneg ks = All (λ k. pos 0 ≤ℤ k) ks
 
@@ -161,7 +162,7 @@ pub comb-zeros : (ys : List Pt) → comb (zeros ys) ys ≡ origin
 comb-zeros [] = refl
 comb-zeros (y ∷ ys) = ap (λ t. pos 0 ·ᵛ y +ᵛ t) (comb-zeros ys) ∙ solveV (pts (y ∷ []) []) (con (pos 0) ⊗ᵛ pt 0 ⊕ᵛ originE) originE refl refl refl
 
--- ---- natural weights
+-- ---- natural weights, as integers
 pub naturals-nonneg : (u : List ℕ) → Nonneg (map pos u)
 naturals-nonneg [] = tt
 naturals-nonneg (k ∷ u) = (num-nonneg k, naturals-nonneg u)
@@ -179,6 +180,7 @@ pub length-naturals : (u : List ℕ) → length (map pos u) ≡ length u
 length-naturals [] = refl
 length-naturals (k ∷ u) = ap suc (length-naturals u)
 
+-- an integer that is not negative is a natural
 pub natural : (z : ℤ) → pos 0 ≤ℤ z → z ≡ pos (natAbs z)
 natural (pos n) h = refl
 natural (negsuc n) h = absurd (h .le)
@@ -187,5 +189,6 @@ pub as-naturals : (ks : List ℤ) → Nonneg ks → map pos (map natAbs ks) ≡ 
 as-naturals [] n = refl
 as-naturals (k ∷ ks) n = ap₂ _∷_ (sym (natural k (n .0))) (as-naturals ks (n .1))
 
+-- the total of the weights of a mean is positive
 pub some-weight : {ys : List Pt} (w : Weights ys) → pos 0 <ℤ pos (total (w .each))
 some-weight w = record { lt = lt→ltb _ _ (w .some) }

@@ -9,13 +9,13 @@ use lib.IntN.{ℤ, pos, _+ℤ_, _*ℤ_, negℤ}
 use lib.Signed.{_≤ℤ_, _<ℤ_}
 use Rattle.std.proofs.shelf.Elements.{all-getD}
 use Rattle.std.proofs.shelf.Signed.{ints, by-ltZ}
-use Rattle.integers.specs.Points.{Pt, _+ᵛ_, _·ᵛ_, dot}
+use Rattle.integers.specs.Points.{Pt, dot}
 use Rattle.integers.proofs.Solver.{var, con, neg, _⊕_, _⊗_, solve}
 use Rattle.integers.proofs.Vectors.{_⊕ᵛ_, _⊗ᵛ_, dotE, pt, pts}
 use Rattle.integers.proofs.Order.{<ℤ→≤ℤ, ≤ℤ-antisym, +ℤ-nonneg, *ℤ-nonneg, *ℤ-pos, *ℤ-cancel≤}
 use Rattle.integers.proofs.Certs.{prove≤, _⊠_, num, nn, sq, le, eq}
-use Rattle.convex.specs.Fractions.{Frac, _÷_, NoLonger}
-use Rattle.convex.specs.Hulls.{comb, totalℤ}
+use Rattle.convex.specs.Fractions.{Frac, NoLonger}
+use Rattle.convex.specs.Hulls.{totalℤ}
 use Rattle.convex.specs.Simplices.{Foot}
 use Rattle.convex.proofs.Progress.{mixed}
 use Rattle.convex.proofs.Combs.{Nonneg, mix, length-mix, comb-mix, total-mix, nonneg-mix, getD-mix}

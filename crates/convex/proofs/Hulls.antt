@@ -30,6 +30,7 @@ pub record Hull (ys : List Pt) (x : Frac) : Type 0 where
   pub positive : pos 0 <ℤ x .over
   pub value : Same x (weighed ks ys)
 
+-- a mean has such weights, and they make a mean
 pub mean→hull : {ys : List Pt} {x : Frac} → Mean ys x → Hull ys x
 mean→hull {ys} m =
     let u = m .by .each in
@@ -64,6 +65,7 @@ module _ {ys : List Pt} {m : List ℤ} {x : Frac} (f : Foot ys m x) (ks : List �
       out : (y : Pt) → dot (x .over ·ᵛ x .point) y ≡ x .over *ℤ dot (x .point) y
       out y = solve (pts (x .point ∷ y ∷ []) (x .over ∷ [])) (dotE (var 6 ⊗ᵛ pt 0) (pt 1)) (var 6 ⊗ dotE (pt 0) (pt 1)) refl
 
+  -- so none is shorter
   pub affine-least : NoLonger x (weighed ks ys)
   affine-least =
       let X = pt 0 in let Y = pt 1 in let w = var 6 in let a = var 7 in let g = w ⊗ᵛ Y ⊖ᵛ a ⊗ᵛ X in

@@ -3,7 +3,7 @@ use mathlib.Core.Path.{_≡_, refl, sym, subst, _∙_}
 use mathlib.Core.List.{List, [], _∷_, _++_}
 use Prim.Native.Nat.{ℕ, zero, suc, _≤_, _<_}
 use native.Mathlib.Omega.{arith}
-use lib.ListN.{length}
+use lib.ListN.{length, length-append}
 use lib.IntN.{ℤ, pos, negsuc, _-ℤ_, _*ℤ_, natAbs, *ℤ-zero}
 use lib.Signed.{_<ℤ_}
 use Rattle.std.proofs.shelf.Signed.{ints}
@@ -14,7 +14,8 @@ use Rattle.integers.proofs.Order.{gap<, *ℤ-pos, *ℤ-cancel<}
 use Rattle.integers.proofs.Certs.{prove<, le, lt}
 use Rattle.integers.proofs.Squares.{dot-nonneg, cauchy}
 use Rattle.convex.specs.Hulls.{without}
-use Rattle.convex.specs.Simplices.{normal, volume, sign, foot, extent}
+use Rattle.convex.specs.Simplices.{normal, volume, sign, foot, extent, Independent}
+use Rattle.convex.proofs.Combs.{length-without}
 use Rattle.convex.proofs.Simplices.{normalE, volumeE, sign-*}
 
 -- a point with a product above zero is not the origin
@@ -64,12 +65,17 @@ room (a ∷ (b ∷ (c ∷ (d ∷ [])))) w q h = absurd (no-fifth (extent (a ∷ 
 room (a ∷ (b ∷ (c ∷ (d ∷ (e ∷ S))))) w q h = absurd (omega arith)
 
 -- the points are affinely independent with w
-pub independent : (S : List Pt) (w : Pt) → 1 ≤ length S → length S ≤ 3 → (extent S *ℤ dot (foot S) w) <ℤ dot (foot S) (foot S) → pos 0 <ℤ extent (S ++ w ∷ [])
-independent [] w p q h = absurd (omega arith)
-independent (a ∷ []) w p q h = independent₁ a w h
-independent (a ∷ (b ∷ [])) w p q h = independent₂ a b w h
-independent (a ∷ (b ∷ (c ∷ []))) w p q h = independent₃ a b c w h
-independent (a ∷ (b ∷ (c ∷ (d ∷ S)))) w p q h = absurd (omega arith)
+with-one-more : (S : List Pt) (w : Pt) → 1 ≤ length S → length S ≤ 3 → (extent S *ℤ dot (foot S) w) <ℤ dot (foot S) (foot S) → pos 0 <ℤ extent (S ++ w ∷ [])
+with-one-more [] w p q h = absurd (omega arith)
+with-one-more (a ∷ []) w p q h = independent₁ a w h
+with-one-more (a ∷ (b ∷ [])) w p q h = independent₂ a b w h
+with-one-more (a ∷ (b ∷ (c ∷ []))) w p q h = independent₃ a b c w h
+with-one-more (a ∷ (b ∷ (c ∷ (d ∷ S)))) w p q h = absurd (omega arith)
+
+pub independent-push : (S : List Pt) (w : Pt) → Independent S → (extent S *ℤ dot (foot S) w) <ℤ dot (foot S) (foot S) → Independent (S ++ w ∷ [])
+independent-push S w i h =
+    let k = room S w (i .few) h in let long = length-append S (w ∷ []) in
+    record { some = omega (arith, long); few = omega (arith, long); apart = with-one-more S w (i .some) k h }
 
 -- ---- the faces of an independent simplex
 -- an edge e of a triangle: n·n = e·(f × n), where n = e × f
@@ -97,13 +103,18 @@ faces a b c d (suc (suc zero)) l h = face a b c d (normalE P₀ P₁ P₃) (P₀
 faces a b c d (suc (suc (suc zero))) l h = face a b c d (normalE P₀ P₁ P₂) (P₃ ⊖ᵛ P₀) refl h
 faces a b c d (suc (suc (suc (suc i)))) l h = absurd (omega arith)
 
+each-face : (ys : List Pt) (i : ℕ) → 2 ≤ length ys → length ys ≤ 4 → i < length ys → pos 0 <ℤ extent ys → pos 0 <ℤ extent (without i ys)
+each-face [] i p q l h = absurd (omega arith)
+each-face (a ∷ []) i p q l h = absurd (omega arith)
+each-face (a ∷ (b ∷ [])) zero p q l h = omega (arith, ints)
+each-face (a ∷ (b ∷ [])) (suc zero) p q l h = omega (arith, ints)
+each-face (a ∷ (b ∷ [])) (suc (suc i)) p q l h = absurd (omega arith)
+each-face (a ∷ (b ∷ (c ∷ []))) i p q l h = edges a b c i l h
+each-face (a ∷ (b ∷ (c ∷ (d ∷ [])))) i p q l h = faces a b c d i l h
+each-face (a ∷ (b ∷ (c ∷ (d ∷ (e ∷ ys))))) i p q l h = absurd (omega arith)
+
 -- each face of independent points is independent
-pub independent-without : (ys : List Pt) (i : ℕ) → 2 ≤ length ys → length ys ≤ 4 → i < length ys → pos 0 <ℤ extent ys → pos 0 <ℤ extent (without i ys)
-independent-without [] i p q l h = absurd (omega arith)
-independent-without (a ∷ []) i p q l h = absurd (omega arith)
-independent-without (a ∷ (b ∷ [])) zero p q l h = omega (arith, ints)
-independent-without (a ∷ (b ∷ [])) (suc zero) p q l h = omega (arith, ints)
-independent-without (a ∷ (b ∷ [])) (suc (suc i)) p q l h = absurd (omega arith)
-independent-without (a ∷ (b ∷ (c ∷ []))) i p q l h = edges a b c i l h
-independent-without (a ∷ (b ∷ (c ∷ (d ∷ [])))) i p q l h = faces a b c d i l h
-independent-without (a ∷ (b ∷ (c ∷ (d ∷ (e ∷ ys))))) i p q l h = absurd (omega arith)
+pub independent-without : (ys : List Pt) (i : ℕ) → 2 ≤ length ys → i < length ys → Independent ys → Independent (without i ys)
+independent-without ys i p l h =
+    let long = length-without i ys l in
+    record { some = omega (arith, long); few = omega (arith, long, h .few); apart = each-face ys i p (h .few) l (h .apart) }

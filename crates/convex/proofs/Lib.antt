@@ -12,3 +12,5 @@ pub mod Measure
 pub mod Carriers
 pub mod Rounds
 pub mod Lowest
+pub mod Sizes
+pub mod Search

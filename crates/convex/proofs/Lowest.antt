@@ -2,7 +2,7 @@
 use mathlib.Core.Path.{_≡_, refl, sym, ap, ap₂, subst, _∙_}
 use mathlib.Core.Logic.{_⊎_, inl, inr}
 use mathlib.Core.List.{List, [], _∷_, map}
-use Prim.Native.Nat.{ℕ, zero, suc, _+_, _-_, _*_, _≤_, _<_}
+use Prim.Native.Nat.{ℕ, zero, suc, _+_, _-_, _≤_, _<_}
 use native.Mathlib.Nat.{mul-comm, eq-or-lt-of-le}
 use native.Mathlib.Omega.{arith}
 use lib.ListN.{getD}
@@ -46,22 +46,27 @@ add-back n m t i =
     let A = var 0 in let B = var 1 in let R = var 2 in let N = var 3 in let M = var 4 in
     prove≡ (pos (t .a) ∷ pos (t .b) ∷ t .base i ∷ n i ∷ m i ∷ []) M ((A ⊕ B) ⊗ R) (by-eq (con (pos 1)) N (A ⊗ R) (t .n-is i) ∷ by-eq (con (pos 1)) (M ⊖ N) (B ⊗ R) (t .m-is i) ∷ []) refl
 
+-- two small facts
 once : (t : ℤ) → t ≡ pos 1 *ℤ t
 once t = solve (t ∷ []) (var 0) (con (pos 1) ⊗ var 0) refl
 
 split : (v w : ℕ) → w < v → pos v ≡ pos (v - w) +ℤ pos w
 split v w h = omega (arith, ints)
 
--- numbers in the proportion v : w are multiples of the same, by induction on v + w
-multiples : (most v w : ℕ) → v + w ≤ most → 0 < v → 0 < w → (n m : ℕ → ℤ) → ((i : ℕ) → pos v *ℤ n i ≡ pos w *ℤ m i) → Multiples n m
+-- numbers in a proportion v : w with v + w ≤ f are multiples of the same
+abbrev UpTo : ℕ → Type 0
+UpTo f = (v w : ℕ) → v + w ≤ f → 0 < v → 0 < w → (n m : ℕ → ℤ) → ((i : ℕ) → pos v *ℤ n i ≡ pos w *ℤ m i) → Multiples n m
+
+-- by induction on f, since n : m − n is w : v − w
+multiples : (f : ℕ) → UpTo f
 multiples zero v w l p q n m e = absurd (omega arith)
 multiples (suc f) v w l p q n m e = ways (cases-lt v w) (multiples f)
   where
-    at-most : (w ≡ v) ⊎ (w < v) → ((v w : ℕ) → v + w ≤ f → 0 < v → 0 < w → (n m : ℕ → ℤ) → ((i : ℕ) → pos v *ℤ n i ≡ pos w *ℤ m i) → Multiples n m) → Multiples n m
+    at-most : (w ≡ v) ⊎ (w < v) → UpTo f → Multiples n m
     at-most (inl s) smaller = record { base = n; a = 1; b = 1; n-is = λ i. once (n i); m-is = λ i. *ℤ-cancel (pos w) (omega (arith, ints)) (sym (e i) ∙ ap₂ (λ k t. pos k *ℤ t) (sym s) (once (n i))) }
     at-most (inr h) smaller = let t = smaller (v - w) w (omega arith) (omega arith) q n (λ i. m i -ℤ n i) (λ i. rest (pos (v - w)) (pos v) (pos w) (n i) (m i) (split v w h) (e i)) in record { base = t .base; a = t .a; b = t .a + t .b; n-is = t .n-is; m-is = add-back n m t }
 
-    ways : (v < w) ⊎ (w ≤ v) → ((v w : ℕ) → v + w ≤ f → 0 < v → 0 < w → (n m : ℕ → ℤ) → ((i : ℕ) → pos v *ℤ n i ≡ pos w *ℤ m i) → Multiples n m) → Multiples n m
+    ways : (v < w) ⊎ (w ≤ v) → UpTo f → Multiples n m
     ways (inl h) smaller = let t = smaller (w - v) v (omega arith) (omega arith) p m (λ i. n i -ℤ m i) (λ i. rest (pos (w - v)) (pos w) (pos v) (m i) (n i) (split w v h) (sym (e i))) in record { base = t .base; a = t .a + t .b; b = t .a; n-is = add-back m n t; m-is = t .n-is }
     ways (inr h) smaller = at-most (eq-or-lt-of-le h) smaller
 
@@ -109,6 +114,7 @@ pub square-unique-lowest : {A B : List Pt} (x y : Frac) (p q r s : ℤ) → Near
 square-unique-lowest x y p q r s n m hq hs e f = ratio-unique p q r s hq hs (square-unique x p q r s (n .reached .positive) e (square-same y x r s (m .reached .positive) (nearest-unique y x m n) f))
 
 -- ---- brought to lowest terms
+-- a factor of a positive number, by a positive one
 positive-factor : (g w : ℤ) → pos 0 <ℤ g → pos 0 <ℤ (g *ℤ w) → pos 0 <ℤ w
 positive-factor g w h p = *ℤ-cancel< g (<ℤ→≤ℤ h) (subst (λ t. t <ℤ (g *ℤ w)) (solve (g ∷ []) (con (pos 0)) (var 0 ⊗ con (pos 0)) refl) p)
 
@@ -120,18 +126,22 @@ module _ (x y : Frac) (r : Reduced (terms x) (terms y)) where
   part : (i : ℕ) → getD (terms x) i (pos 0) ≡ getD (map (λ m. pos (r .factor) *ℤ m) (terms y)) i (pos 0)
   part i = ap (λ l. getD l i (pos 0)) (r .scaled)
 
+  -- it is the same fraction
   pub same-of-reduced : Same x y
   same-of-reduced =
       let X = pt 0 in let Y = pt 1 in let d = var 6 in let e = var 7 in let g = var 8 in
       proveV (pts (x .point ∷ y .point ∷ []) (x .over ∷ y .over ∷ pos (r .factor) ∷ [])) (e ⊗ᵛ X) (d ⊗ᵛ Y)
       (by-eqV e X (g ⊗ᵛ Y) (λ i. record { x = part 0 i; y = part 1 i; z = part 2 i }) ∷ by-eqV (con (negsuc 0)) (d ⊗ᵛ Y) ((g ⊗ e) ⊗ᵛ Y) (ap (λ t. t ·ᵛ y .point) (part 3)) ∷ []) refl refl refl
 
+  -- over a positive number
   pub over-reduced : pos 0 <ℤ x .over → pos 0 <ℤ y .over
   over-reduced p = positive-factor (pos (r .factor)) (y .over) (positive-pos (r .positive)) (subst (λ t. pos 0 <ℤ t) (part 3) p)
 
+  -- and so equal to what x is equal to
   pub same-reduced : (z : Frac) → pos 0 <ℤ x .over → Same x z → Same y z
   same-reduced z p s = same-trans y x z p (sym same-of-reduced) s
 
+  -- the nearest difference, in lowest terms
   pub nearest-reduced : {A B : List Pt} → Nearest A B x → Nearest A B y
   nearest-reduced n = nearest-same x y same-of-reduced (over-reduced (n .reached .positive)) n
 
@@ -143,6 +153,7 @@ module _ {k w p q : ℤ} (r : Reduced (k ∷ w ∷ []) (p ∷ q ∷ [])) where
   bottom : w ≡ g *ℤ q
   bottom = ap (λ l. getD l 1 (pos 0)) (r .scaled)
 
+  -- over a positive number
   pub bottom-reduced : pos 0 <ℤ w → pos 0 <ℤ q
   bottom-reduced h = positive-factor g q (positive-pos (r .positive)) (subst (λ t. pos 0 <ℤ t) bottom h)
 

@@ -29,6 +29,7 @@ record Spread (ys : List Pt) (ks : List ℤ) (xs : List Pt) : Type 0 where
   whole : totalℤ js ≡ totalℤ ks
   sum : comb js ys ≡ comb ks xs
 
+-- each weight is added at the point's place among ys
 spread : (ys : List Pt) (ks : List ℤ) (xs : List Pt) → length ks ≡ length xs → Nonneg ks → All (Has ys) xs → Spread ys ks xs
 spread ys [] xs e n h = record { js = zeros ys; one-each = length-zeros ys; nonneg = nonneg-zeros ys; whole = total-zeros ys; sum = comb-zeros ys }
 spread ys (k ∷ ks) [] e n h = absurd (omega arith)
@@ -45,6 +46,7 @@ spread ys (k ∷ ks) (x ∷ xs) e n h = more (spread ys ks xs (omega arith) (n .
           sum = comb-bump i k (s .js) ys (h .0 .1) (s .one-each) ∙ ap₂ (λ p q. k ·ᵛ p +ᵛ q) (h .0 .2 origin) (s .sum);
         }
 
+-- a mean of points that are all among ys
 pub mean-among : {ys xs : List Pt} {x : Frac} → All (Has ys) xs → Mean xs x → Mean ys x
 mean-among {ys} {xs} h m =
     let g = mean→hull m in let s = spread ys (g .ks) xs (g .one-each) (g .nonneg) h in
@@ -90,6 +92,7 @@ record Sides (A B ys : List Pt) : Type 0 where
   many-B : length ys ≡ length bottoms
   sum : (ks : List ℤ) → comb ks ys ≡ comb ks tops -ᵛ comb ks bottoms
 
+-- they are gathered point by point
 sides : {A B : List Pt} (ys : List Pt) → All (Between A B) ys → Sides A B ys
 sides [] h = record { tops = []; bottoms = []; in-A = tt; in-B = tt; many-A = refl; many-B = refl; sum = elim [ [] ↦ refl | k ∷ ks ↦ refl ] }
 sides {A} {B} (y ∷ ys) h = more (sides ys (h .1))

@@ -84,7 +84,7 @@ module _ (x : Frac) (w : Pt) where
           solve (pts (a ∷ b ∷ []) (p ∷ q ∷ [])) (dotE c c) (P ⊗ P ⊗ dotE A A ⊕ con (pos 2) ⊗ P ⊗ Q ⊗ dotE A B ⊕ Q ⊗ Q ⊗ dotE B B) refl
 
 -- so the shortest mean is shorter than x
-pub progress : {ys : List Pt} (x y : Frac) (w : Pt) → Mean ys x → Mean ys (w ÷ pos 1) → (x .over *ℤ dot (x .point) w) <ℤ dot (x .point) (x .point) → Shortest ys y → Shorter y x
+progress : {ys : List Pt} (x y : Frac) (w : Pt) → Mean ys x → Mean ys (w ÷ pos 1) → (x .over *ℤ dot (x .point) w) <ℤ dot (x .point) (x .point) → Shortest ys y → Shorter y x
 progress x y w m n h s =
     let t = nearer x w (m .positive) h in let z = mixed (t .here) (t .there) x (w ÷ pos 1) in
     shorter-trans y z x (s .reached .positive) (s .least z (mean-between (t .here) (t .there) (t .here≥) (t .there>) m n)) (t .shorter)

@@ -3,16 +3,21 @@ use mathlib.Core.Path.{_≡_, refl, sym, _∙_}
 use mathlib.Core.List.{List, [], _∷_}
 use Prim.Native.Nat.{_≤_}
 use native.Mathlib.Omega.{arith}
-use lib.ListN.{length}
-use lib.IntN.{ℤ, pos, negsuc, _*ℤ_, natAbs}
+use lib.ListN.{length, getD}
+use lib.IntN.{ℤ, pos, negsuc, _+ℤ_, _-ℤ_, _*ℤ_, natAbs}
+use lib.Signed.{_≤ℤ_, _<ℤ_}
 use Rattle.std.specs.shelf.Lists.{Has}
 use Rattle.std.proofs.shelf.Elements.{all-has}
 use Rattle.std.proofs.shelf.Signed.{ints}
 use Rattle.integers.specs.Points.{Pt, _·ᵛ_, dot, det, origin}
 use Rattle.integers.proofs.Solver.{Exp, var, con, neg, _⊕_, _⊗_, _⊖_, solve}
 use Rattle.integers.proofs.Vectors.{V, _⊕ᵛ_, _⊖ᵛ_, _⊗ᵛ_, dotE, crossE, detE, originE, P₀, P₁, P₂, P₃, pts, solveV}
+use Rattle.integers.proofs.Order.{*ℤ-cancel≤}
 use Rattle.integers.proofs.Certs.{prove≡, by-eq}
-use Rattle.convex.specs.Simplices.{Foot, normal, volume, sign, weights, foot, extent, footing}
+use Rattle.integers.proofs.Squares.{dot-nonneg}
+use Rattle.convex.specs.Fractions.{SquareOf}
+use Rattle.convex.specs.Simplices.{Foot, normal, volume, sign, weights, foot, extent, footing, Independent}
+use Rattle.convex.proofs.Fractions.{square-of-level}
 
 -- `normal` and `volume`, quoted for the solver
 abbrev pub normalE : V → V → V → V
@@ -88,5 +93,24 @@ foot-of (a ∷ (b ∷ (c ∷ (d ∷ [])))) p q = foot₄ a b c d
 foot-of (a ∷ (b ∷ (c ∷ (d ∷ (e ∷ ys))))) p q = absurd (omega arith)
 
 -- W D·y = D·D, for each of the points y
-pub level-at : (ys : List Pt) (y : Pt) → 1 ≤ length ys → length ys ≤ 4 → Has ys y → extent ys *ℤ dot (foot ys) y ≡ dot (foot ys) (foot ys)
-level-at ys y p q h = all-has (λ y. extent ys *ℤ dot (foot ys) y ≡ dot (foot ys) (foot ys)) ys y (foot-of ys p q .level) h
+pub level-at : (ys : List Pt) (y : Pt) → Independent ys → Has ys y → extent ys *ℤ dot (foot ys) y ≡ dot (foot ys) (foot ys)
+level-at ys y i h = all-has (λ y. extent ys *ℤ dot (foot ys) y ≡ dot (foot ys) (foot ys)) ys y (foot-of ys (i .some) (i .few) .level) h
+
+-- so the square of the foot is D·y / W
+pub square-foot : (ys : List Pt) (y : Pt) → Independent ys → Has ys y → SquareOf (footing ys) (dot (foot ys) y) (extent ys)
+square-foot ys y i h = square-of-level (footing ys) (dot (foot ys) y) (level-at ys y i h)
+
+-- and D·y is not negative
+pub gap≥ : (ys : List Pt) (y : Pt) → Independent ys → Has ys y → pos 0 ≤ℤ dot (foot ys) y
+gap≥ ys y i h = *ℤ-cancel≤ (extent ys) (i .apart) (rw (level-at ys y i h, solve (extent ys ∷ []) (var 0 ⊗ con (pos 0)) (con (pos 0)) refl) (dot-nonneg (foot ys)))
+
+-- the two ends of an edge do not both lie beyond the foot
+pub not-both : (a b : Pt) → let ys = a ∷ b ∷ [] in pos 0 <ℤ extent ys → getD (weights ys) 0 (pos 0) ≤ℤ pos 0 → getD (weights ys) 1 (pos 0) ≤ℤ pos 0 → ⊥
+not-both a b h k l = none _ _ _ h (foot₂ a b .whole) k l
+  where
+    none : (w k l : ℤ) → pos 0 <ℤ w → w ≡ k +ℤ (l +ℤ pos 0) → k ≤ℤ pos 0 → l ≤ℤ pos 0 → ⊥
+    none w k l h e p q = omega (arith, ints)
+
+-- the volume of a tetrahedron, by the determinants that its weights are made of
+pub volume-is : (a b c d : Pt) → volume a b c d ≡ det b c d -ℤ det a c d +ℤ det a b d -ℤ det a b c
+volume-is a b c d = solve (pts (a ∷ b ∷ c ∷ d ∷ []) []) (volumeE P₀ P₁ P₂ P₃) (detE P₁ P₂ P₃ ⊖ detE P₀ P₂ P₃ ⊕ detE P₀ P₁ P₃ ⊖ detE P₀ P₁ P₂) refl

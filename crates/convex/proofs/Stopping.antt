@@ -1,5 +1,5 @@
 -- The stopping law: a difference is the nearest exactly where no difference of corners lies on its near side.
-use mathlib.Core.Path.{refl, sym, _∙_}
+use mathlib.Core.Path.{_≡_, refl, sym, subst, _∙_}
 use mathlib.Core.Logic.{_⊎_, inl, inr}
 use mathlib.Core.List.{List, [], _∷_, map}
 use native.Mathlib.Omega.{arith}
@@ -8,15 +8,15 @@ use lib.Signed.{_≤ℤ_, _<ℤ_}
 use Rattle.std.specs.shelf.Lists.{All, Has}
 use Rattle.std.proofs.shelf.Elements.{all-weaker, all-has-itself}
 use Rattle.std.proofs.shelf.Signed.{ints, by-ltZ}
-use Rattle.integers.specs.Points.{Pt, _-ᵛ_, _·ᵛ_, dot}
+use Rattle.integers.specs.Points.{Pt, _-ᵛ_, _·ᵛ_, dot, origin}
 use Rattle.integers.proofs.Solver.{var, neg, con, _⊕_, _⊗_, _⊖_}
-use Rattle.integers.proofs.Vectors.{_⊕ᵛ_, _⊖ᵛ_, _⊗ᵛ_, dotE, pt, pts}
+use Rattle.integers.proofs.Vectors.{_⊕ᵛ_, _⊖ᵛ_, _⊗ᵛ_, dotE, originE, pt, pts}
 use Rattle.integers.proofs.VectorCerts.{by-eqV, proveV}
 use Rattle.integers.proofs.Order.{<ℤ→≤ℤ, +ℤ-pos, *ℤ-nonneg, *ℤ-pos}
 use Rattle.integers.proofs.Certs.{prove≤, _⊠_, nn, le}
 use Rattle.convex.specs.Fractions.{Frac, _÷_, Same, Shorter, _less_}
 use Rattle.convex.specs.Means.{sumOf, total, Weights, meanOf, Mean, Difference, Nearest, StoppingTest}
-use Rattle.convex.specs.Hulls.{Between}
+use Rattle.convex.specs.Hulls.{Between, Farthest}
 use Rattle.convex.proofs.Combs.{dot-comb≥, naturals-nonneg, total-naturals, comb-naturals, length-naturals, some-weight}
 use Rattle.convex.proofs.Members.{difference-of-corners, difference-of-means, mean-corner}
 use Rattle.convex.proofs.Fractions.{same-no-longer, no-longer, same-trans, shorter-trans, not-shorter, beyond-same, same-or-shorter}
@@ -24,7 +24,7 @@ use Rattle.convex.proofs.Progress.{mixed, mean-between, Nearer, nearer}
 
 -- ---- the test is enough
 -- a bound of each corner is one of the mean
-pub mean≥ : {ys : List Pt} (w : Weights ys) (E : Pt) (c : ℤ) → All (λ y. c ≤ℤ dot E y) ys → (pos (total (w .each)) *ℤ c) ≤ℤ dot E (sumOf (w .each) ys)
+mean≥ : {ys : List Pt} (w : Weights ys) (E : Pt) (c : ℤ) → All (λ y. c ≤ℤ dot E y) ys → (pos (total (w .each)) *ℤ c) ≤ℤ dot E (sumOf (w .each) ys)
 mean≥ {ys} w E c h = rw (← total-naturals (w .each), ← comb-naturals (w .each) ys) (dot-comb≥ E c (map pos (w .each)) ys (length-naturals (w .each) ∙ w .one-each) (naturals-nonneg (w .each)) h)
 
 module _ (A B : List Pt) (D : Pt) (W : ℤ) (h : StoppingTest A B (D ÷ W)) where
@@ -54,10 +54,17 @@ nearest-stops A B x h r = record {
   least = λ y m. same-or-shorter x y (<ℤ→≤ℤ (m .positive)) (beyond-same x y _ (m .positive) (*ℤ-pos (some-weight (m .left)) (some-weight (m .right))) (m .value) (means≥ A B (x .point) (x .over) h (m .left) (m .right)));
 }
 
--- ---- by the two corners that lie farthest on the near side
+-- ---- by the corners that lie farthest on the near side
+-- farthest against D is least along D
+pub least-of-farthest : (ps : List Pt) (D p : Pt) → Farthest ps (origin -ᵛ D) p → All (λ x. dot D p ≤ℤ dot D x) ps
+least-of-farthest ps D p h = all-weaker _ _ back ps (h .most)
+  where
+    back : (x : Pt) → dot (origin -ᵛ D) x ≤ℤ dot (origin -ᵛ D) p → dot D p ≤ℤ dot D x
+    back x l = let E = originE ⊖ᵛ pt 0 in prove≤ (pts (D ∷ p ∷ x ∷ []) []) (dotE (pt 0) (pt 1)) (dotE (pt 0) (pt 2)) (le (dotE E (pt 2)) (dotE E (pt 1)) l ∷ []) refl
+
 -- where they pass the test, all corners do
-pub supports : (A B : List Pt) (x : Frac) (a b : Pt) → pos 0 ≤ℤ x .over → All (λ p. dot (x .point) a ≤ℤ dot (x .point) p) A → All (λ q. dot (x .point) q ≤ℤ dot (x .point) b) B → dot (x .point) (x .point) ≤ℤ (x .over *ℤ dot (x .point) (a -ᵛ b)) → StoppingTest A B x
-supports A B x a b h l r k = all-weaker _ _ (λ p i. all-weaker _ _ (λ q j. each p q i j) B r) A l
+pub supports : (A B : List Pt) (x : Frac) (a b : Pt) → pos 0 ≤ℤ x .over → Farthest A (origin -ᵛ x .point) a → Farthest B (x .point) b → dot (x .point) (x .point) ≤ℤ (x .over *ℤ dot (x .point) (a -ᵛ b)) → StoppingTest A B x
+supports A B x a b h l r k = all-weaker _ _ (λ p i. all-weaker _ _ (λ q j. each p q i j) B (r .most)) A (least-of-farthest A (x .point) a l)
   where
     each : (p q : Pt) → dot (x .point) a ≤ℤ dot (x .point) p → dot (x .point) q ≤ℤ dot (x .point) b → dot (x .point) (x .point) ≤ℤ (x .over *ℤ dot (x .point) (p -ᵛ q))
     each p q i j =
@@ -65,9 +72,16 @@ supports A B x a b h l r k = all-weaker _ _ (λ p i. all-weaker _ _ (λ q j. eac
         prove≤ (pts (x .point ∷ a ∷ b ∷ p ∷ q ∷ []) (x .over ∷ [])) (dotE X X) (w ⊗ dotE X (pt 3 ⊖ᵛ pt 4))
         (le (dotE X X) (w ⊗ dotE X (pt 1 ⊖ᵛ pt 2)) k ∷ nn w h ⊠ le (dotE X (pt 1)) (dotE X (pt 3)) i ∷ nn w h ⊠ le (dotE X (pt 4)) (dotE X (pt 2)) j ∷ []) refl
 
--- a mean of differences of corners that they pass the test for is the nearest difference
-pub nearest-by-supports : (A B : List Pt) {ys : List Pt} (x : Frac) (a b : Pt) → All (Between A B) ys → Mean ys x → All (λ p. dot (x .point) a ≤ℤ dot (x .point) p) A → All (λ q. dot (x .point) q ≤ℤ dot (x .point) b) B → dot (x .point) (x .point) ≤ℤ (x .over *ℤ dot (x .point) (a -ᵛ b)) → Nearest A B x
+-- a mean of differences of corners for which they pass is the nearest difference
+pub nearest-by-supports : (A B : List Pt) {ys : List Pt} (x : Frac) (a b : Pt) → All (Between A B) ys → Mean ys x → Farthest A (origin -ᵛ x .point) a → Farthest B (x .point) b → dot (x .point) (x .point) ≤ℤ (x .over *ℤ dot (x .point) (a -ᵛ b)) → Nearest A B x
 nearest-by-supports A B x a b h m l r k = nearest-stops A B x (supports A B x a b (<ℤ→≤ℤ (m .positive)) l r k) (difference-of-corners A B h m)
+
+-- where the bodies meet, all corners pass
+pub stopping-at-origin : (A B : List Pt) (x : Frac) → x .point ≡ origin → StoppingTest A B x
+stopping-at-origin A B x e = all-weaker (Has A) _ (λ a _. all-weaker (Has B) _ (λ b _. flat (a -ᵛ b)) B (all-has-itself B)) A (all-has-itself A)
+  where
+    flat : (w : Pt) → dot (x .point) (x .point) ≤ℤ (x .over *ℤ dot (x .point) w)
+    flat w = subst (λ D. dot D D ≤ℤ (x .over *ℤ dot D w)) (sym e) (prove≤ (pts (w ∷ []) (x .over ∷ [])) (dotE originE originE) (var 3 ⊗ dotE originE (pt 0)) [] refl)
 
 -- ---- the test is needed
 -- between a difference and one of corners is a difference

@@ -10,6 +10,7 @@ pub record Frac : Type 0 where
   pub over : ℤ
 
 infix 5 _÷_
+-- p / d
 abbrev pub _÷_ : Pt → ℤ → Frac
 p ÷ d = record { point = p; over = d }
 

@@ -1,10 +1,10 @@
--- The shortest mean of one list of points, and sums with weights of any sign.
+-- The shortest mean of one list of points, its farthest corners, and sums with weights of any sign.
 use mathlib.Core.Path.{_≡_}
 use mathlib.Core.List.{List, [], _∷_}
 use Prim.Native.Nat.{ℕ, zero, suc, _*_, _/_}
 use lib.IntN.{ℤ, pos, _+ℤ_, natAbs}
-use Rattle.std.specs.shelf.Lists.{All, Has}
 use lib.Signed.{_≤ℤ_}
+use Rattle.std.specs.shelf.Lists.{All, Has}
 use Rattle.integers.specs.Points.{Pt, _+ᵛ_, _-ᵛ_, _·ᵛ_, dot, origin}
 use Rattle.convex.specs.Fractions.{Frac, NoLonger}
 use Rattle.convex.specs.Means.{Mean}

@@ -41,7 +41,7 @@ weights (a ∷ (b ∷ (c ∷ (d ∷ [])))) =
     (s *ℤ det b c d) ∷ negℤ (s *ℤ det a c d) ∷ (s *ℤ det a b d) ∷ negℤ (s *ℤ det a b c) ∷ []
 weights (a ∷ (b ∷ (c ∷ (d ∷ (e ∷ ys))))) = []
 
--- their sum of the points
+-- the sum of the points by these weights
 abbrev pub foot : List Pt → Pt
 foot [] = origin
 foot (a ∷ []) = a
@@ -49,7 +49,7 @@ foot (a ∷ (b ∷ [])) = let e = b -ᵛ a in dot b e ·ᵛ a -ᵛ dot a e ·ᵛ
 foot (a ∷ (b ∷ (c ∷ []))) = det a b c ·ᵛ normal a b c
 foot (a ∷ (b ∷ (c ∷ (d ∷ ys)))) = origin
 
--- their total: positive where the points are affinely independent, and else zero
+-- the total of the weights: positive where the points are affinely independent, and else zero
 abbrev pub extent : List Pt → ℤ
 extent [] = pos 0
 extent (a ∷ []) = pos 1
@@ -58,15 +58,19 @@ extent (a ∷ (b ∷ (c ∷ []))) = let n = normal a b c in dot n n
 extent (a ∷ (b ∷ (c ∷ (d ∷ [])))) = pos (natAbs (volume a b c d))
 extent (a ∷ (b ∷ (c ∷ (d ∷ (e ∷ ys))))) = pos 0
 
--- the foot itself
+-- the foot itself, as a fraction
 abbrev pub footing : List Pt → Frac
 footing S = foot S ÷ extent S
+
+-- S are one to four affinely independent points
+pub record Independent (S : List Pt) : Type 0 where
+  pub some : 1 ≤ length S
+  pub few : length S ≤ 4
+  pub apart : pos 0 <ℤ extent S
 
 -- S is the part of ys whose foot is the shortest mean of ys: independent points, with positive weights
 pub record Carries (S ys : List Pt) : Type 0 where
   pub among : All (Has ys) S
-  pub some : 1 ≤ length S
-  pub few : length S ≤ 4
-  pub independent : pos 0 <ℤ extent S
+  pub independent : Independent S
   pub inside : All (λ k. pos 0 <ℤ k) (weights S)
   pub shortest : Shortest ys (footing S)

@@ -1,4 +1,2 @@
-pub mod Firsts
-pub mod Places
 pub mod Quotients
 pub mod Crossed

@@ -9,10 +9,10 @@ use Rattle.integers.specs.Points.{Pt, dot}
 use Rattle.exact.specs.declared.corner.Corner.{Corner}
 use Rattle.exact.specs.declared.gap.Gap.{Gap}
 use Rattle.exact.specs.declared.scores.Product.{Product}
-use Rattle.exact.specs.declared.search.Scored.{Scored}
+use Rattle.search.specs.declared.Scored.{Scored}
 use Rattle.exact.specs.Spots.{spot}
 use Rattle.exact.specs.Terms.{narrower}
-use Rattle.exact.specs.Places.{Placed}
+use Rattle.search.specs.Places.{Placed}
 
 -- the first place of a corner whose product with d none exceeds, with that product
 abbrev pub Farthest : List Corner → Pt → Option (Scored ℕ Product) → Type 0

@@ -4,8 +4,8 @@ ghost use Rattle.integers.specs.Space.{Near};
 
 #[derive(Clone, Copy, PartialEq, Eq, Debug)]
 pub struct Corner {
-    pub(crate) x: i8,
-    pub(crate) y: i8,
-    pub(crate) z: i8,
+    pub x: i8,
+    pub y: i8,
+    pub z: i8,
     ghost near: { Near 14 (record { x = x; y = y; z = z }) },
 }

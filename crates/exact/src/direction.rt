@@ -5,6 +5,6 @@ use crate::point::Point;
 
 #[derive(Clone, Copy)]
 pub struct Direction {
-    pub(crate) along: Point,
+    pub along: Point,
     ghost near: { Within 2000000000 along },
 }

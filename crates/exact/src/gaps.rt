@@ -14,7 +14,11 @@ impl Fraction {
     pub fn new(point: Point, over: i64) -> Option<Fraction>
         ensures { λ r. ⌜ OverPositive point over r ⌝ }
     {
-        if over < 1 { None } else { Some(Fraction { point, over }) }
+        if over < 1 {
+            None
+        } else {
+            Some(Fraction { point, over })
+        }
     }
 }
 

@@ -52,7 +52,10 @@ impl Fraction {
         let y = divided(self.point.y, g);
         let z = divided(self.point.z, g);
         let over = divided(self.over, g);
-        Fraction { point: Point { x, y, z }, over }
+        Fraction {
+            point: Point { x, y, z },
+            over,
+        }
     }
 }
 
@@ -62,6 +65,9 @@ impl Gap {
         ensures { λ r. ⌜ Reduced (parts self) (parts r) ⌝ }
     {
         let g = gcd(self.p, self.q);
-        Gap { p: self.p / g, q: self.q / g }
+        Gap {
+            p: self.p / g,
+            q: self.q / g,
+        }
     }
 }

@@ -14,7 +14,9 @@ impl Point {
     pub fn is_within(self, limit: u64) -> bool
         ensures { λ r. ⌜ When r (Within limit self) (Within limit self → ⊥) ⌝ }
     {
-        self.x.unsigned_abs() <= limit && self.y.unsigned_abs() <= limit && self.z.unsigned_abs() <= limit
+        self.x.unsigned_abs() <= limit
+            && self.y.unsigned_abs() <= limit
+            && self.z.unsigned_abs() <= limit
     }
 }
 
@@ -23,21 +25,35 @@ impl Corner {
     pub fn new(p: Point) -> Option<Corner>
         ensures { λ r. ⌜ Kept 14 (at p) (mapped spot r) ⌝ }
     {
-        if p.is_within(14) { Some(Corner { x: p.x as i8, y: p.y as i8, z: p.z as i8 }) } else { None }
+        if p.is_within(14) {
+            Some(Corner {
+                x: p.x as i8,
+                y: p.y as i8,
+                z: p.z as i8,
+            })
+        } else {
+            None
+        }
     }
 
     // The point where the corner lies.
     pub fn point(self) -> Point
         ensures { λ r. ⌜ at r ≡ spot self ⌝ }
     {
-        Point { x: self.x as i64, y: self.y as i64, z: self.z as i64 }
+        Point {
+            x: self.x as i64,
+            y: self.y as i64,
+            z: self.z as i64,
+        }
     }
 
     // The square of the corner: its product with itself.
     pub fn square(self) -> i64
         ensures { λ r. ⌜ r ≡ dot (spot self) (spot self) ⌝ }
     {
-        let along = Direction { along: self.point() };
+        let along = Direction {
+            along: self.point(),
+        };
         along.product(self)
     }
 }
@@ -47,7 +63,11 @@ impl Direction {
     pub fn new(p: Point) -> Option<Direction>
         ensures { λ r. ⌜ Kept 2000000000 (at p) (mapped heading r) ⌝ }
     {
-        if p.is_within(2000000000) { Some(Direction { along: p }) } else { None }
+        if p.is_within(2000000000) {
+            Some(Direction { along: p })
+        } else {
+            None
+        }
     }
 
     // The product of the direction and a corner: the three products of like coordinates, added.

@@ -9,10 +9,10 @@ ghost use Rattle.exact.specs.Finds.{Farthest, Narrowest};
 use crate::corner::Corner;
 use crate::direction::Direction;
 use crate::gap::Gap;
-use crate::listed::Scoring;
-use crate::listed::first_best_of;
-use crate::search::Score;
-use crate::search::Scored;
+use search::Score;
+use search::Scored;
+use search::listed::Scoring;
+use search::listed::first_best_of;
 
 // The product of a corner and a direction, as a score.
 #[derive(Clone, Copy)]

@@ -6,9 +6,10 @@ use Rattle.exact.proofs.lowest.gcd.Needs as need
 pub loop-y-again : need.loop-y-again
 loop-y-again c =
     let x = c .loop-y .x in
-    let y = c .loop-y .y in
-    (alike-trans y (x % y) x y (c .args .a) (c .args .b) (alike-back x y) (c .loop-y .inv .0),
-     alike-trans (c .args .a) (c .args .b) x y y (x % y) (c .loop-y .inv .1) (alike-on x y))
+    let y = c .loop-y .y in (
+      alike-trans y (x % y) x y (c .args .a) (c .args .b) (alike-back x y) (c .loop-y .inv .0),
+      alike-trans (c .args .a) (c .args .b) x y y (x % y) (c .loop-y .inv .1) (alike-on x y),
+    )
 
 pub returns : need.returns
 returns c =

@@ -1,5 +1,0 @@
-use Rattle.exact.proofs.Places.{placed}
-use Rattle.exact.proofs.listed.first_best_of.Needs as need
-
-pub returns : need.returns
-returns g c = placed (g .F·Scoring .scoreOf (c .args .scoring)) (g .Score·Score .noBetter) (c .args .elements .now) (c .first-best .result) (c .first-best .ensures)
