@@ -4,4 +4,6 @@ mod arithmetic;
 #[cfg(test)]
 mod made;
 #[cfg(test)]
+mod measured;
+#[cfg(test)]
 mod searches;

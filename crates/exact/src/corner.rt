@@ -2,7 +2,7 @@
 ghost use Rattle.integers.specs.Points.{Pt};
 ghost use Rattle.integers.specs.Space.{Near};
 
-#[derive(Clone, Copy, PartialEq, Eq, Debug)]
+#[derive(Clone, Copy)]
 pub struct Corner {
     pub x: i8,
     pub y: i8,

@@ -4,13 +4,13 @@ use mathlib.Core.List.{List, [], _∷_, map}
 use Prim.Native.Nat.{ℕ, zero, suc, _+_, _-_, _*_, _/_, _%_, _<_, _≤_}
 use native.Mathlib.Nat.{add-mul, mul-assoc, div-add-mod', mul-sub, mul-comm, zero-mul, one-mul, mul-div-left, eq-of-mul-eq-mul-right}
 use native.Mathlib.Omega.{arith}
-use lib.IntN.{ℤ, pos, negsuc, negℤ, natAbs, _*ℤ_}
+use lib.IntN.{ℤ, pos, negsuc, negℤ, natAbs, _+ℤ_, _*ℤ_, *ℤ-zero, *ℤ-comm}
 use lib.Signed.{_<ℤ_, quotZ}
 use Rattle.std.specs.shelf.Lists.{All}
 use Rattle.std.proofs.shelf.Elements.{all-weaker}
 use Rattle.std.proofs.shelf.Signed.{ints}
 use Rattle.integers.specs.Divisors.{Divides, Greatest, Coprime, Reduced}
-use Rattle.integers.proofs.Laws.{*ℤ-negℤ}
+use Rattle.integers.proofs.Laws.{*ℤ-negℤ, *ℤ-assoc, *ℤ-+ℤ}
 
 -- ---- Euclid's algorithm
 -- each divisor of both numbers of one pair divides both of the other
@@ -114,3 +114,29 @@ reduced-by ns ms g h v e = record {
   scaled = e;
   coprime = λ k a. no-more k g h (v .most (k * g) (subst (λ l. All (Divides (k * g)) (map natAbs l)) (sym e) (lift k g ms a)));
 }
+
+-- ---- numbers that come to 1 by some factors have no common divisor
+abbrev pub weighted : List ℤ → List ℤ → ℤ
+weighted [] ns = pos 0
+weighted (c ∷ cs) [] = pos 0
+weighted (c ∷ cs) (n ∷ ns) = c *ℤ n +ℤ weighted cs ns
+
+-- the quotient of a signed number by a divisor
+signed-multiple : (k : ℕ) (n : ℤ) → Divides k (natAbs n) → (j : ℤ) × (n ≡ pos k *ℤ j)
+signed-multiple k (pos a) (j, e) = (pos j, ap pos (e ∙ mul-comm j k))
+signed-multiple k (negsuc a) (j, e) = (negℤ (pos j), ap (λ t. negℤ (pos t)) (e ∙ mul-comm j k) ∙ sym (*ℤ-negℤ (pos k) (pos j)))
+
+weighted-multiple : (k : ℕ) (cs ns : List ℤ) → All (Divides k) (map natAbs ns) → (j : ℤ) × (weighted cs ns ≡ pos k *ℤ j)
+weighted-multiple k [] ns h = (pos 0, sym (*ℤ-zero (pos k)))
+weighted-multiple k (c ∷ cs) [] h = (pos 0, sym (*ℤ-zero (pos k)))
+weighted-multiple k (c ∷ cs) (n ∷ ns) (d, h) =
+    let (i, e) = signed-multiple k n d in let (j, f) = weighted-multiple k cs ns h in
+    (c *ℤ i +ℤ j, ap₂ _+ℤ_ (ap (λ t. c *ℤ t) e ∙ exchange c (pos k) i) f ∙ sym (*ℤ-+ℤ (pos k) (c *ℤ i) j))
+  where
+    exchange : (a b c : ℤ) → a *ℤ (b *ℤ c) ≡ b *ℤ (a *ℤ c)
+    exchange a b c = sym (*ℤ-assoc a b c) ∙ ap (λ t. t *ℤ c) (*ℤ-comm a b) ∙ *ℤ-assoc b a c
+
+pub coprime-by : (cs ns : List ℤ) → weighted cs ns ≡ pos 1 → Coprime (map natAbs ns)
+coprime-by cs ns e k h =
+    let m = weighted-multiple k cs ns h in
+    one-of (natAbs (m .0)) k (mul-comm (natAbs (m .0)) k ∙ sym (abs-product (pos k) (m .0)) ∙ ap natAbs (sym (m .1) ∙ e))
