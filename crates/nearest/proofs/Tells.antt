@@ -3,10 +3,11 @@ use mathlib.Core.Path.{_≡_, refl, sym, ap, ap₂, subst, _∙_}
 use mathlib.Core.List.{List, [], _∷_}
 use Prim.Native.Nat.{ℕ, _-_, _≤_, _<_, zero-le}
 use native.Mathlib.Bridge.{le-prop}
+use native.Mathlib.Nat.{mul-le-mul-right, one-mul}
 use native.Mathlib.Omega.{arith}
-use lib.ListN.{length}
+use lib.ListN.{length, getD}
 use lib.Dec.{T}
-use lib.IntN.{ℤ, pos, negsuc, natAbs}
+use lib.IntN.{ℤ, pos, negsuc, natAbs, _*ℤ_}
 use lib.Signed.{_≤ℤ_, _<ℤ_, nonNeg}
 use mir.Syntax.{w64}
 use mir.Val.{Fits, toZ, ofZ}
@@ -14,17 +15,20 @@ use Rattle.std.specs.shelf.Lists.{All, Has}
 use Rattle.std.proofs.shelf.Signed.{ints}
 use Rattle.integers.specs.Points.{Pt, _·ᵛ_}
 use Rattle.integers.specs.Space.{Near}
+use Rattle.integers.specs.Divisors.{Reduced}
 use Rattle.integers.proofs.Solver.{var}
 use Rattle.integers.proofs.Overflow.{kept-is}
 use Rattle.integers.proofs.Environments.{num}
-use Rattle.convex.specs.Fractions.{_÷_, Same}
+use Rattle.integers.proofs.Divisors.{abs-product}
+use Rattle.convex.specs.Fractions.{Frac, _÷_, Same}
 use Rattle.convex.specs.Hulls.{comb, totalℤ}
 use Rattle.convex.specs.Simplices.{weights, Independent}
 use Rattle.convex.proofs.Fractions.{square-same}
-use Rattle.convex.proofs.Lowest.{same-of-reduced, same-reduced, nearest-reduced, bottom-reduced, square-reduced}
+use Rattle.convex.proofs.Lowest.{same-of-reduced, same-reduced, nearest-reduced, bottom-reduced, square-reduced, nearest-unique-lowest, square-unique-lowest}
 use Rattle.convex.proofs.Simplices.{foot-of}
 use Rattle.convex.proofs.Stopping.{stopping-of-nearest}
 use Rattle.exact.specs.declared.corner.Corner.{Corner}
+use Rattle.exact.specs.Space.{at}
 use Rattle.exact.specs.Spots.{spot}
 use Rattle.nearest.specs.declared.pair.Pair.{Pair}
 use Rattle.nearest.specs.declared.simplex.Carrier.{Carrier}
@@ -32,9 +36,9 @@ use Rattle.nearest.specs.declared.measurement.Witness.{Witness}
 use Rattle.nearest.specs.declared.measurement.Measurement.{Measurement}
 use Rattle.nearest.specs.Shapes.{between, betweens, pairs, points, carried, Sound}
 use Rattle.nearest.specs.Searches.{CornersOf, Ended}
-use Rattle.nearest.specs.Measurements.{reported, differences, weightsOf, nowhere, blank, Witnessed, Reports}
+use Rattle.nearest.specs.Measurements.{reported, differences, weightsOf, nowhere, blank, Witnessed, Reports, Agrees, Answers}
 use Rattle.nearest.specs.Reports.{listed, Told}
-use Rattle.nearest.proofs.Pairs.{length-betweens, size-extent}
+use Rattle.nearest.proofs.Pairs.{length-betweens, near-foot, size-extent}
 use Rattle.nearest.proofs.Faces.{positive}
 
 -- ---- the numbers
@@ -85,6 +89,25 @@ listed-weighty (v ∷ vs) [] h = tt
 listed-weighty (v ∷ vs) (k ∷ ks) h = (h .0, listed-weighty vs ks (h .1))
 
 -- ---- the report
+-- a common factor taken out leaves no larger number
+factor-small : (f : ℕ) (n m : ℤ) → 0 < f → n ≡ pos f *ℤ m → natAbs m ≤ natAbs n
+factor-small f n m h e = omega (arith, ap natAbs e ∙ abs-product (pos f) m, mul-le-mul-right (natAbs m) h, one-mul (natAbs m))
+
+reduced-small : {a b c w d e f v : ℤ} → Reduced (a ∷ b ∷ c ∷ w ∷ []) (d ∷ e ∷ f ∷ v ∷ []) → (natAbs d ≤ natAbs a) × (natAbs e ≤ natAbs b) × (natAbs f ≤ natAbs c) × (natAbs v ≤ natAbs w)
+reduced-small {a} {b} {c} {w} {d} {e} {f} {v} r =
+    let k = r .factor in let p = r .positive in
+    (factor-small k a d p (ap (λ l. getD l 0 (pos 0)) (r .scaled)), factor-small k b e p (ap (λ l. getD l 1 (pos 0)) (r .scaled)), factor-small k c f p (ap (λ l. getD l 2 (pos 0)) (r .scaled)), factor-small k w v p (ap (λ l. getD l 3 (pos 0)) (r .scaled)))
+
+-- two reports of the same bodies agree
+pub agrees : {ps qs : List Pt} (m n : Measurement) → Reports ps qs m → Reports ps qs n → Agrees m n
+agrees m n h k =
+    let same = nearest-unique-lowest (reported m) (reported n) (h .nearest) (k .nearest) (h .lowest) (k .lowest) in
+    let squares = square-unique-lowest (reported m) (reported n) (pos (m .gap .p)) (pos (m .gap .q)) (pos (n .gap .p)) (pos (n .gap .q)) (h .nearest) (k .nearest) (above′ (m .gap .q) (h .over)) (above′ (n .gap .q) (k .over)) (h .square) (k .square) (h .reduced) (k .reduced) in
+    record { d-is = ap (λ (x : Frac). x .point) same; w-is = ap (λ (x : Frac). x .over) same; p-is = ap natAbs (squares .0); q-is = ap natAbs (squares .1) }
+  where
+    above′ : (n : ℕ) → 0 < n → pos 0 <ℤ pos n
+    above′ n l = omega (arith, ints)
+
 module _ (ps qs : List Pt) (c : Carrier) (m : Measurement) (e : Ended ps qs c) (t : Told c m) where
   abbrev S : List Pt
   S = points (c .simplex)
@@ -110,6 +133,13 @@ module _ (ps qs : List Pt) (c : Carrier) (m : Measurement) (e : Ended ps qs c) (
     mean = subst (λ ks. Same (reported m) (comb ks (differences used) ÷ totalℤ ks)) (sym (listed-weights (pairs (c .simplex)) (weights S) one-each)) (subst (λ ys. Same (reported m) (comb (weights S) ys ÷ totalℤ (weights S))) (sym (listed-differences (pairs (c .simplex)) (weights S) one-each)) (same-reduced (carried c) (reported m) (t .fraction) (comb (weights S) S ÷ totalℤ (weights S)) (positive (e .sound)) mean-is));
   }
 
+  -- lowest terms are no larger than the foot and the extent
+  small : Near 830000000 (at (m .d)) × (natAbs (m .w) ≤ 120000000)
+  small =
+      let near = near-foot (e .sound) in
+      let (x, y, z, w) = reduced-small (t .fraction) in
+      ((omega (arith, x, near .0), omega (arith, y, near .1), omega (arith, z, near .2)), omega (arith, w, size-extent (e .sound)))
+
   pub reports : Reports ps qs m
   reports =
       let n = nearest-reduced (carried c) (reported m) (t .fraction) (e .nearest) in
@@ -119,9 +149,14 @@ module _ (ps qs : List Pt) (c : Carrier) (m : Measurement) (e : Ended ps qs c) (
         square = square-reduced (t .ratio) (reported m) (square-same (carried c) (reported m) (t .gap) (c .extent) (positive (e .sound)) (same-of-reduced (carried c) (reported m) (t .fraction)) (t .square));
         over = above (bottom-reduced (t .ratio) (positive (e .sound)));
         reduced = t .ratio .coprime;
+        d-small = small .0;
+        w-small = small .1;
         stopping = stopping-of-nearest (reported m) n;
         witnessed = witnessed;
       }
     where
       above : {n : ℕ} → pos 0 <ℤ pos n → 0 < n
       above h = omega (arith, ints)
+
+  pub answers : Answers ps qs m
+  answers = record { reports = reports; only = λ n h. agrees n m h reports }

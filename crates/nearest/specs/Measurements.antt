@@ -1,14 +1,15 @@
 -- What a measurement says of two bodies.
 use mathlib.Core.Path.{_≡_}
 use mathlib.Core.List.{List, [], _∷_, _++_, map}
-use Prim.Native.Nat.{ℕ, _<_, zero-le}
+use Prim.Native.Nat.{ℕ, _<_, _≤_, zero-le}
 use lib.ListN.{replicate}
-use lib.IntN.{ℤ, pos}
+use lib.IntN.{ℤ, pos, natAbs}
 use lib.Signed.{_<ℤ_}
 use Rattle.std.specs.declared.result.Result.{Result}
 use Rattle.std.specs.shelf.Lists.{All, Has}
 use Rattle.refusals.specs.declared.Refusal.{Refusal}
 use Rattle.integers.specs.Points.{Pt, _-ᵛ_}
+use Rattle.integers.specs.Space.{Near}
 use Rattle.integers.specs.Divisors.{Coprime}
 use Rattle.convex.specs.Fractions.{Frac, _÷_, Same, SquareOf}
 use Rattle.convex.specs.Means.{Nearest, StoppingTest}
@@ -64,11 +65,26 @@ pub record Reports (ps qs : List Pt) (m : Measurement) : Type 0 where
   pub square : SquareOf (reported m) (pos (m .gap .p)) (pos (m .gap .q))
   pub over : 0 < m .gap .q
   pub reduced : Coprime (m .gap .p ∷ m .gap .q ∷ [])
+  -- none of these numbers is large
+  pub d-small : Near 830000000 (at (m .d))
+  pub w-small : natAbs (m .w) ≤ 120000000
   -- no difference of corners lies on the near side of it
   pub stopping : StoppingTest ps qs (reported m)
   -- and it comes from these corners
   pub witnessed : Witnessed ps qs m
 
--- the report, or the slip of a body that refuses: the first body's where both do
+-- m and n say the same of the nearest difference and of the gap
+pub record Agrees (m n : Measurement) : Type 0 where
+  pub d-is : at (m .d) ≡ at (n .d)
+  pub w-is : m .w ≡ n .w
+  pub p-is : m .gap .p ≡ n .gap .p
+  pub q-is : m .gap .q ≡ n .gap .q
+
+-- m reports the two bodies, and whatever reports them agrees with m: only the witnesses are open
+pub record Answers (ps qs : List Pt) (m : Measurement) : Type 0 where
+  pub reports : Reports ps qs m
+  pub only : (n : Measurement) → Reports ps qs n → Agrees n m
+
+-- the answer, or the slip of a body that refuses: the first body's where both do
 abbrev pub Measured : Result (List Pt) Refusal → Result (List Pt) Refusal → Result Measurement Refusal → Type 0
-Measured first second r = OfBoth Reports first second r
+Measured first second r = OfBoth Answers first second r
