@@ -106,11 +106,11 @@ bounded ρ (a ⊖ b) = bound-- (bounded ρ a) (bounded ρ b)
 bounded ρ (a ⊗ b) = bound-* (bounded ρ a) (bounded ρ b)
 bounded ρ (neg a) = bound-neg (bounded ρ a)
 
-both-left : (b c : Bool) → T (both b c) → T b
+pub both-left : (b c : Bool) → T (both b c) → T b
 both-left true c t = tt
 both-left false c t = t
 
-both-right : (b c : Bool) → T (both b c) → T c
+pub both-right : (b c : Bool) → T (both b c) → T c
 both-right true c t = t
 both-right false c t = absurd t
 

@@ -28,11 +28,13 @@ use Rattle.nearest.specs.declared.simplex.Carrier.{Carrier}
 use Rattle.nearest.specs.Shapes.{between, betweens, pairs, points, carried, Sound, Carried, Chosen, Lesser}
 use Rattle.nearest.proofs.Pairs.{weight-kept}
 
+-- the differences of a face
 betweens-without : (i : ℕ) (vs : List Pair) → betweens (without i vs) ≡ without i (betweens vs)
 betweens-without i [] = refl
 betweens-without zero (v ∷ vs) = refl
 betweens-without (suc i) (v ∷ vs) = ap (λ t. between v ∷ t) (betweens-without i vs)
 
+-- the extent is positive
 pub positive : {c : Carrier} → Sound c → pos 0 <ℤ c .extent
 positive s = subst (λ x. pos 0 <ℤ x .over) (sym (s .is)) (s .independent .apart)
 
@@ -44,6 +46,7 @@ least c y m = subst (λ x. NoLonger x y) (sym (c .sound .is)) (c .carries .short
 pub whole : (r : Carrier) → Sound r → All (λ k. pos 0 <ℤ k) (weights (points (r .simplex))) → Carried (pairs (r .simplex)) r
 whole r s k = record { sound = s; among = all-has-itself (pairs (r .simplex)); carries = carries-itself (points (r .simplex)) (s .independent) k }
 
+-- the weight of the pair at k
 abbrev pub weight : List Pair → ℕ → ℤ
 weight vs k = getD (weights (betweens vs)) k (pos 0)
 
@@ -93,9 +96,11 @@ module _ (c : Carrier) (y : Pt) (r : ℤ) (s : Sound c) (h : Has (points (c .sim
   pub gap-low : pos 0 ≤ℤ r
   gap-low = subst (λ t. pos 0 ≤ℤ t) (sym e) (subst (λ x. pos 0 ≤ℤ dot (x .point) y) (sym (s .is)) (gap≥ (points (c .simplex)) y (s .independent) h))
 
+-- the order of two carried points
 pub by-squares : (c d : Carrier) (k l : ℤ) → Sound c → Sound d → SquareOf (carried c) k (c .extent) → SquareOf (carried d) l (d .extent) → (l *ℤ c .extent) ≤ℤ (k *ℤ d .extent) → NoLonger (carried d) (carried c)
 by-squares c d k l s t e f h = no-longer-by-squares (carried d) (carried c) l (d .extent) k (c .extent) (positive t) (positive s) f e h
 
+-- the best so far or one more, and the best so far where none is solved
 pub chosen-next : {vs : List Pair} {k : ℤ} (c d r : Carrier) → Carried vs d → Lesser c d r → Chosen k vs c r
 chosen-next {vs} c d r t l = record { from = which (l .from); older = l .left; newer = λ _ y m. no-longer-trans (carried r) (carried d) y (positive (t .sound)) (l .right) (least t y m) }
   where
@@ -106,6 +111,7 @@ chosen-next {vs} c d r t l = record { from = which (l .from); older = l .left; n
 pub chosen-old : {vs : List Pair} {k : ℤ} (c : Carrier) → (k ≤ℤ pos 0 → ⊥) → Chosen k vs c c
 chosen-old c h = record { from = inl refl; older = ≤ℤ-refl _; newer = λ o y m. absurd (h o) }
 
+-- what is chosen is sound
 pub chosen-sound : {vs : List Pair} {k : ℤ} {c r : Carrier} → Sound c → Chosen k vs c r → Sound r
 chosen-sound {vs} {c = c} {r = r} s h = which (h .from)
   where
@@ -142,6 +148,7 @@ module _ (vs : List Pair) (k : ℕ) {ws : List ℤ} (e : weights (betweens vs) �
   pub chosen-by : {us : List Pair} {c r : Carrier} → Chosen tested us c r → Chosen (weight vs k) us c r
   chosen-by {us} {c} {r} h = subst (λ t. Chosen t us c r) tested-is h
 
+-- not both
 pub not-small : {x : ℤ} → pos 0 <ℤ x → x ≤ℤ pos 0 → ⊥
 not-small h k = omega (arith, ints)
 

@@ -25,6 +25,7 @@ both-of : (b c : Bool) → T b → T c → T (both b c)
 both-of true c s t = t
 both-of false c s t = s
 
+-- one product of numbers within l and r, the sum of two, and of three
 module _ (l r : ℕ) (p : l < 2 ^ 63) (q : r < 2 ^ 63) where
   abbrev One : Bool
   One = both (ltb (l * r) (2 ^ 63)) (both (ltb l (2 ^ 63)) (ltb r (2 ^ 63)))
@@ -44,6 +45,7 @@ module _ (l r : ℕ) (p : l < 2 ^ 63) (q : r < 2 ^ 63) where
   pub three : l * r + l * r + l * r < 2 ^ 63 → T Three
   three h = let o = one (omega arith) in let t = two (omega arith) in both-of _ _ (lt→ltb _ _ h) (both-of _ _ t o)
 
+-- so with the bounds of a room or a scale
 pub one-fits : {a b : Pt} (h : Room a b) → T (One (h .left) (h .right) (h .left-fits) (h .right-fits))
 one-fits h = one (h .left) (h .right) (h .left-fits) (h .right-fits) (omega (arith, h .fits))
 
@@ -56,7 +58,7 @@ three-fit h = three (h .left) (h .right) (h .left-fits) (h .right-fits) (h .fits
 pub scale-fits : {k : ℤ} {a : Pt} (h : Scale k a) → T (One (h .left) (h .right) (h .left-fits) (h .right-fits))
 scale-fits h = one (h .left) (h .right) (h .left-fits) (h .right-fits) (h .fits)
 
--- ---- by numerals
+-- ---- rooms and scales, by numerals
 pub roomy : (l r : ℕ) {a b : Pt} → Near l a → Near r b → T (ltb (l * r + l * r + l * r) (2 ^ 63)) → T (ltb l (2 ^ 63)) → T (ltb r (2 ^ 63)) → Room a b
 roomy l r h k s t u = record { left = l; right = r; left-in = h; right-in = k; left-fits = ltb→lt _ _ t; right-fits = ltb→lt _ _ u; fits = ltb→lt _ _ s }
 

@@ -36,10 +36,12 @@ pub record Held (ps qs : List Pt) (c : Carrier) : Type 0 where
   pub carried : Carried vs c
   pub corners : All (CornersOf ps qs) (pairs (c .simplex))
 
+-- pairs of corners have differences of corners
 all-between : (ps qs : List Pt) (vs : List Pair) → All (CornersOf ps qs) vs → All (Between ps qs) (betweens vs)
 all-between ps qs [] h = tt
 all-between ps qs (v ∷ vs) h = (record { a = spot (v .first); b = spot (v .second); in-A = h .0 .first; in-B = h .0 .second; is = refl }, all-between ps qs vs (h .1))
 
+-- with one more pair
 betweens-push : (vs : List Pair) (w : Pair) → betweens (vs ++ w ∷ []) ≡ betweens vs ++ between w ∷ []
 betweens-push [] w = refl
 betweens-push (v ∷ vs) w = ap (λ t. between v ∷ t) (betweens-push vs w)
@@ -56,10 +58,12 @@ probed-corners p = record { first = p .first .one; second = p .second .one }
 pub held-first : {d : Pt} (ps qs : List Pt) (w : Pair) (c : Carrier) → Probed d ps qs w → Carried (w ∷ []) c → Held ps qs c
 held-first ps qs w c p t = record { vs = w ∷ []; carried = t; corners = all-weaker _ _ (λ x i. all-has (CornersOf ps qs) (w ∷ []) x (probed-corners p, tt) i) (pairs (c .simplex)) (t .among) }
 
+-- a foot may be asked for
 pub foot-near : {ps qs : List Pt} {c : Carrier} → Held ps qs c → Near 1000000000 (at (c .foot))
 foot-near {c = c} h = wider 1000000000 (at (c .foot)) (leb→le _ _ tt) (near-foot (h .carried .sound))
 
 module _ {ps qs : List Pt} {c : Carrier} (h : Held ps qs c) where
+  -- the carried point is a mean of the points
   mean : Mean (points (c .simplex)) (carried c)
   mean = subst (λ x. Mean (points (c .simplex)) x) (sym (h .carried .sound .is)) (carries-reached (h .carried .carries))
 
@@ -85,9 +89,11 @@ module _ {ps qs : List Pt} {c : Carrier} (h : Held ps qs c) where
     pub apart : Independent (betweens (pairs (c .simplex) ++ w ∷ []))
     apart = subst (λ t. Independent t) (sym (betweens-push (pairs (c .simplex)) w)) (independent-push (points (c .simplex)) (between w) (h .carried .carries .independent) near-side)
 
+    -- it holds again
     pub again : (r : Carrier) → CornersOf ps qs w → Carried (pairs (c .simplex) ++ w ∷ []) r → Held ps qs r
     again r k t = record { vs = pairs (c .simplex) ++ w ∷ []; carried = t; corners = all-weaker _ _ (λ x i. all-has (CornersOf ps qs) (pairs (c .simplex) ++ w ∷ []) x (all-push (CornersOf ps qs) (pairs (c .simplex)) w (h .corners) k) i) (pairs (r .simplex)) (t .among) }
 
+    -- and the measure falls
     pub falls : (r : Carrier) → Carried (pairs (c .simplex) ++ w ∷ []) r → measure 66382848 (carried r) < measure 66382848 (carried c)
     falls r t = measure-falls 66382848 (carried r) (carried c) (positive (t .sound)) (positive (h .carried .sound)) (below r (t .sound)) (below c (h .carried .sound)) shorter
       where

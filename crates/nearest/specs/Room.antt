@@ -14,6 +14,7 @@ pub record Room (a b : Pt) : Type 0 where
   pub right-fits : right < 2 ^ 63
   pub fits : left * right + left * right + left * right < 2 ^ 63
 
+-- the product of k and a coordinate of a fits
 pub record Scale (k : ℤ) (a : Pt) : Type 0 where
   pub left : ℕ
   pub right : ℕ

@@ -11,7 +11,7 @@ fn corner(x: i64, y: i64, z: i64) -> Result<Corner, AnyError> {
 }
 
 // A lid that leans: its left edge lies on the table and its right edge stands three steps high.
-pub fn slanted_lid() -> Result<[Corner; 8], AnyError> {
+pub(crate) fn slanted_lid() -> Result<[Corner; 8], AnyError> {
     Ok([
         corner(-5, -4, 0)?,
         corner(-5, 4, 0)?,
@@ -25,7 +25,7 @@ pub fn slanted_lid() -> Result<[Corner; 8], AnyError> {
 }
 
 // A case that stands to the right of the lid on feet that reach out at its sides: the hull of its rim and its feet.
-pub fn case_with_feet() -> Result<[Corner; 8], AnyError> {
+pub(crate) fn case_with_feet() -> Result<[Corner; 8], AnyError> {
     Ok([
         corner(8, -2, 7)?,
         corner(8, 2, 7)?,

@@ -13,7 +13,7 @@ use Rattle.std.proofs.shelf.Signed.{ints}
 use Rattle.integers.specs.Points.{Pt, _-ᵛ_, _·ᵛ_, dot}
 use Rattle.integers.specs.Divisors.{Coprime}
 use Rattle.integers.proofs.Order.{≤ℤ-antisym}
-use Rattle.integers.proofs.Overflow.{both}
+use Rattle.integers.proofs.Overflow.{both, both-left, both-right}
 use Rattle.integers.proofs.Divisors.{weighted, coprime-by}
 use Rattle.convex.specs.Fractions.{Frac, _÷_, Same, SquareOf, _less_}
 use Rattle.convex.specs.Means.{Weights, Difference, Nearest, StoppingTest, sumOf, total}
@@ -69,14 +69,6 @@ tests (r ∷ rs) [] = false
 tests (r ∷ rs) (c ∷ cs) = both (test r c) (tests rs cs)
 
 -- ---- what they say
-both-left : (b c : Bool) → T (both b c) → T b
-both-left true c t = tt
-both-left false c t = t
-
-both-right : (b c : Bool) → T (both b c) → T c
-both-right true c t = t
-both-right false c t = absurd t
-
 eqZ-is : (a b : ℤ) → T (eqZ a b) → a ≡ b
 eqZ-is a b t = ≤ℤ-antisym (record { le = both-left (leZ a b) (leZ b a) t }) (record { le = both-right (leZ a b) (leZ b a) t })
 
