@@ -1,8 +1,10 @@
 #!/usr/bin/env python3
 """An independent measurement in exact integers, and the cases that it makes for crates/compared.
 
-It tries all choices of one to four corner differences that are affinely independent, keeps those whose nearest affine
-point has positive weights only, and takes the shortest. The weights come from the normal equations by Cramer's rule.
+It tries all choices of one to three corner differences that are affinely independent, keeps those whose nearest affine
+point has positive weights only, and takes the shortest. Where that one fails the stopping test it looks for four corner
+differences that hold the origin, and the answer is 0; where it passes, no choice of four is tried, since none could be
+shorter. The weights come from the normal equations by Cramer's rule.
 
     python3 tools/oracle.py crates/compared      writes the files stdin and stdout of that crate anew
 """
