@@ -123,7 +123,7 @@ def main(argv):
         return 0
     for p in files(root, (".rt", ".antt")):
         old = read(p)
-        new = TOKEN.sub(lambda m: turn.get(m.group(0), m.group(0)), old)
+        new = TOKEN.sub(lambda m: turn.get(m.group(0).rstrip(":"), m.group(0).rstrip(":")) + m.group(0)[len(m.group(0).rstrip(":")):], old)
         if new != old:
             with open(p, "w", encoding="utf-8") as f:
                 f.write(new)

@@ -1,4 +1,6 @@
 // Tests that show a reader what each call does: examples, extremes, ties and empty input.
+#![tactic(auto)]
+
 #[cfg(test)]
 mod arithmetic;
 #[cfg(test)]

@@ -1,5 +1,7 @@
 // Measures the pairs of bodies on standard input, one pair to a line, and prints D, W, p and q of each: what it prints is compared with what an
 // independent program worked out (tools/oracle.py). A line has two counts and then the coordinates of that many corners of each body.
+#![tactic(auto)]
+
 use anyhow::anyhow;
 use exact::corner::Corner;
 use exact::point::Point;

@@ -1,4 +1,6 @@
 // Exact whole-number arithmetic of Gap: points, fractions in lowest terms, and gaps with the searches by them.
+#![tactic(auto)]
+
 pub mod corner;
 pub mod direction;
 pub mod fraction;

@@ -1,4 +1,6 @@
 // Layers over any part book, each a part book itself: mirror, swell and join. A slip from below passes through unaltered.
+#![tactic(auto)]
+
 pub mod join;
 pub mod mirror;
 pub mod swell;

@@ -1,4 +1,6 @@
 // The exact nearest distance of two convex bodies, each known by its farthest corners: measured without rounding and without a limit on steps.
+#![tactic(auto)]
+
 pub mod body;
 pub mod corners;
 pub mod measure;

@@ -1,4 +1,6 @@
 // Parts and the interface of a part book: where corners come from, for everything that measures them.
+#![tactic(auto)]
+
 pub mod book;
 pub mod corner;
 pub mod octant;

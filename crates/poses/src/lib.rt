@@ -1,4 +1,6 @@
 // Parts in poses: turned, offset and swept along a travel, each a body for measuring.
+#![tactic(auto)]
+
 pub mod measures;
 pub mod pose;
 pub mod posed;

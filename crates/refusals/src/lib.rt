@@ -1,4 +1,6 @@
 // Why a call is refused: a reason and a layer, each with its number, and a place. A refusal is passed up unaltered by every layer.
+#![tactic(auto)]
+
 ghost use Rattle.std.specs.Prelude.{◌≡◌};
 ghost use Rattle.refusals.specs.Numbers.{reason_number, layer_number};
 

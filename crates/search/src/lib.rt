@@ -1,4 +1,6 @@
 // The one first-best search: the first candidate that none beats, for any source of candidates and any score with a total order.
+#![tactic(auto)]
+
 ghost use Rattle.std.specs.Prelude.{◌≡◌, Bool, true, false, List};
 ghost use Rattle.search.specs.Firsts.{Chosen, Step, unscored};
 ghost use Rattle.std.proofs.Common.{rules};
@@ -7,7 +9,7 @@ pub mod listed;
 
 // What a candidate is judged by. `noBetter x y` says that x is no better than y: a total order, in which ties are allowed.
 pub trait Score {
-    ghost noBetter: { Self → Self → Bool };
+    ghost is_no_better: { Self → Self → Bool };
 
     fn no_better(&self, other: &Self) -> bool
         ensures { result ≡ is_no_better self.now other.now };

@@ -8,7 +8,7 @@ use crate::{Candidates, Score, Scored, first_best};
 pub trait Scoring<T> {
     type Score: Score + Drop;
 
-    ghost scoreOf: { Self → T → Self.Score };
+    ghost score_of: { Self → T → Self.Score };
 
     fn score(&self, element: &T) -> Self::Score
         ensures { result ≡ score_of self.now element.now };

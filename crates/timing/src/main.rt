@@ -1,4 +1,6 @@
 // Times the measurement: nanoseconds for one, over bodies of 4, 8, 16 and 50 corners. It is no test: with no argument it only says how to run it.
+#![tactic(auto)]
+
 use anyhow::anyhow;
 use exact::corner::Corner;
 use exact::point::Point;

@@ -1,4 +1,6 @@
 // The program: one piece of work on a tray, printed as a person would want to read it.
+#![tactic(auto)]
+
 mod shapes;
 mod show;
 

@@ -1,4 +1,6 @@
 // Twelve worked measurements as one proved table: see specs/Table.antt.
+#![tactic(auto)]
+
 ghost use Rattle.std.specs.Prelude.{◌≡◌, length};
 ghost use Rattle.std.specs.List.{AllByRecursion as All};
 ghost use Rattle.worked.specs.Table.{table, Correct};

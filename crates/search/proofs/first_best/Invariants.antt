@@ -4,7 +4,7 @@ use Rattle.search.proofs.first_best.Given as goal
 
 -- the best so far is the first best of those seen
 abbrev pub invariant-loop-next : goal.invariant-loop-next
-invariant-loop-next g l = (seen : List _) × (l.initial.best ∷ g.C.Candidates.rest l.initial.candidates ≡ seen ++ g.C.Candidates.rest l.candidates) × FirstBest g.Item-as-Score.is_no_better seen l.best
+invariant-loop-next g l = (seen : List _) × (l.initial.best ∷ g.C.Candidates.rest l.initial.candidates ≡ seen ++ g.C.Candidates.rest l.candidates) × FirstBest g.C.Item.Score.is_no_better seen l.best
 
 abbrev pub decreases-loop-next : goal.decreases-loop-next
 decreases-loop-next g l = length (g.C.Candidates.rest l.candidates)

@@ -14,9 +14,9 @@ returns c =
     let fw : SFits w64 s.over = search rules in
     let x = nat_abs s.point.x in let y = nat_abs s.point.y in let z = nat_abs s.point.z in let w = nat_abs s.over in
     let a : Greatest (z ∷ w ∷ []) c.gcd-a.result =
-    subst₂ (λ (m n : ℕ). Greatest (m ∷ n ∷ []) c.gcd-a.result) (c.unsigned-abs.ensures.value ∙ ap nat_abs (to_z-of_z w64 s.point.z fz)) (c.unsigned-abs-2.ensures.value ∙ ap nat_abs (to_z-of_z w64 s.over fw)) c.gcd-a.ensures in
+    subst₂ (λ (m n : ℕ). Greatest (m ∷ n ∷ []) c.gcd-a.result) (c.unsigned_abs.ensures.value ∙ ap nat_abs (to_z-of_z w64 s.point.z fz)) (c.unsigned_abs-2.ensures.value ∙ ap nat_abs (to_z-of_z w64 s.over fw)) c.gcd-a.ensures in
     let b : Greatest (y ∷ c.gcd-a.result ∷ []) c.gcd-b.result =
-    subst (λ (m : ℕ). Greatest (m ∷ c.gcd-a.result ∷ []) c.gcd-b.result) (c.unsigned-abs-3.ensures.value ∙ ap nat_abs (to_z-of_z w64 s.point.y fy)) c.gcd-b.ensures in
+    subst (λ (m : ℕ). Greatest (m ∷ c.gcd-a.result ∷ []) c.gcd-b.result) (c.unsigned_abs-3.ensures.value ∙ ap nat_abs (to_z-of_z w64 s.point.y fy)) c.gcd-b.ensures in
     let g : Greatest (x ∷ c.gcd-b.result ∷ []) c.gcd.result =
     subst (λ (m : ℕ). Greatest (m ∷ c.gcd-b.result ∷ []) c.gcd.result) (c.unsigned-abs-4.ensures.value ∙ ap nat_abs (to_z-of_z w64 s.point.x fx)) c.gcd.ensures in
     let all : Greatest (x ∷ y ∷ z ∷ w ∷ []) c.gcd.result = greatest_more (y ∷ z ∷ w ∷ []) x c.gcd-b.result c.gcd.result (greatest_more (z ∷ w ∷ []) y c.gcd-a.result c.gcd-b.result a b) g in
