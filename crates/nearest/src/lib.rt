@@ -6,7 +6,7 @@ pub mod corners;
 pub mod measure;
 pub mod measurement;
 mod pair;
-mod search;
+mod rounds;
 mod simplex;
 mod solves;
 mod steps;

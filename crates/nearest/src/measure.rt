@@ -8,7 +8,7 @@ ghost use Rattle.nearest.specs.Reports.{weighed, listed, padded, Told};
 use crate::body::Body;
 use crate::measurement::{Measurement, Witness};
 use crate::pair::Pair;
-use crate::search::nearest;
+use crate::rounds::nearest;
 use crate::simplex::{Carrier, Simplex};
 use crate::solves::{weights2, weights3, weights4};
 use crate::steps::gap;

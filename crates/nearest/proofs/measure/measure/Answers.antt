@@ -7,4 +7,4 @@ use Rattle.nearest.proofs.Tells.{answers}
 use Rattle.nearest.proofs.measure.measure.Goals as goal
 
 pub returns : goal.returns
-returns g c = on Ended Answers (g.F.Body.corners c.args.first.now) (g.G.Body.corners c.args.second.now) c.in-ok-found.found c.report.result c.in-ok-found.ensures (λ ps qs e. answers ps qs c.in-ok-found.found c.report.result e c.report.ensures)
+returns g c = on Ended Answers (g.F.Body.corners c.args.first.now) (g.G.Body.corners c.args.second.now) c.in_ok-found.found c.report.result c.in_ok-found.ensures (λ ps qs e. answers ps qs c.in_ok-found.found c.report.result e c.report.ensures)

@@ -7,8 +7,8 @@ use Rattle.nearest.proofs.Pairs.{size_volume}
 use Rattle.nearest.proofs.Signs.{minus_abs, plus_abs}
 use Rattle.nearest.proofs.solves.extent4.Goals as goal
 
-pub overflow-sub-result : goal.overflow-sub-result
-overflow-sub-result c = fits w64 (num c.volume-v.result (size_by c.volume-v.ensures (size_volume c.args.a c.args.b c.args.c c.args.d)) []) (con (pos 0) ⊖ var 0) tt
+pub overflow_sub-result : goal.overflow_sub-result
+overflow_sub-result c = fits w64 (num c.volume-v.result (size_by c.volume-v.ensures (size_volume c.args.a c.args.b c.args.c c.args.d)) []) (con (pos 0) ⊖ var 0) tt
 
 pub returns-then-v-lt0 : goal.returns-then-v-lt0
 returns-then-v-lt0 c = kept_is w64 (num c.volume-v.result (size_by c.volume-v.ensures (size_volume c.args.a c.args.b c.args.c c.args.d)) []) (con (pos 0) ⊖ var 0) tt ∙ minus_abs c.volume-v.result (rw (kept_is w64 (num c.volume-v.result (size_by c.volume-v.ensures (size_volume c.args.a c.args.b c.args.c c.args.d)) []) (var 0) tt) at c.if-v-lt0.true) ∙ ap (λ t. pos (nat_abs t)) c.volume-v.ensures

@@ -13,13 +13,13 @@ pub dot-l-requires : goal.dot-l-requires
 dot-l-requires c = roomy 28 56 (near_by c.difference-p.ensures (near-between c.args.a)) (near_by c.along-e.ensures (near_edge c.args.a c.args.b)) tt tt tt
 
 pub scaled-left-requires : goal.scaled-left-requires
-scaled-left-requires c = scaly 4704 28 (size_by (passed c.dot-k.result c.dot-k.type-inv ∙ c.dot-k.ensures ∙ ap₂ dot c.difference-q.ensures c.along-e.ensures) (size_edge_second c.args.a c.args.b)) (near_by c.difference-p.ensures (near-between c.args.a)) tt tt tt
+scaled-left-requires c = scaly 4704 28 (size_by (passed c.dot-k.result c.dot-k.type_inv ∙ c.dot-k.ensures ∙ ap₂ dot c.difference-q.ensures c.along-e.ensures) (size_edge_second c.args.a c.args.b)) (near_by c.difference-p.ensures (near-between c.args.a)) tt tt tt
 
 pub scaled-right-requires : goal.scaled-right-requires
-scaled-right-requires c = scaly 4704 28 (size_by (passed c.dot-l.result c.dot-l.type-inv ∙ c.dot-l.ensures ∙ ap₂ dot c.difference-p.ensures c.along-e.ensures) (size_edge_first c.args.a c.args.b)) (near_by c.difference-q.ensures (near-between c.args.b)) tt tt tt
+scaled-right-requires c = scaly 4704 28 (size_by (passed c.dot-l.result c.dot-l.type_inv ∙ c.dot-l.ensures ∙ ap₂ dot c.difference-p.ensures c.along-e.ensures) (size_edge_first c.args.a c.args.b)) (near_by c.difference-q.ensures (near-between c.args.b)) tt tt tt
 
 pub minus-requires : goal.minus-requires
-minus-requires c = (wide_by (c.scaled-left.ensures ∙ ap₂ ◌·ᵛ◌ (passed c.dot-k.result c.dot-k.type-inv ∙ c.dot-k.ensures ∙ ap₂ dot c.difference-q.ensures c.along-e.ensures) c.difference-p.ensures) (near_first c.args.a c.args.b) tt, wide_by (c.scaled-right.ensures ∙ ap₂ ◌·ᵛ◌ (passed c.dot-l.result c.dot-l.type-inv ∙ c.dot-l.ensures ∙ ap₂ dot c.difference-p.ensures c.along-e.ensures) c.difference-q.ensures) (near-second c.args.a c.args.b) tt)
+minus-requires c = (wide_by (c.scaled-left.ensures ∙ ap₂ ◌·ᵛ◌ (passed c.dot-k.result c.dot-k.type_inv ∙ c.dot-k.ensures ∙ ap₂ dot c.difference-q.ensures c.along-e.ensures) c.difference-p.ensures) (near_first c.args.a c.args.b) tt, wide_by (c.scaled-right.ensures ∙ ap₂ ◌·ᵛ◌ (passed c.dot-l.result c.dot-l.type_inv ∙ c.dot-l.ensures ∙ ap₂ dot c.difference-p.ensures c.along-e.ensures) c.difference-q.ensures) (near-second c.args.a c.args.b) tt)
 
 pub returns : goal.returns
-returns c = c.minus.ensures ∙ ap₂ ◌-ᵛ◌ (c.scaled-left.ensures ∙ ap₂ ◌·ᵛ◌ (passed c.dot-k.result c.dot-k.type-inv ∙ c.dot-k.ensures ∙ ap₂ dot c.difference-q.ensures c.along-e.ensures) c.difference-p.ensures) (c.scaled-right.ensures ∙ ap₂ ◌·ᵛ◌ (passed c.dot-l.result c.dot-l.type-inv ∙ c.dot-l.ensures ∙ ap₂ dot c.difference-p.ensures c.along-e.ensures) c.difference-q.ensures)
+returns c = c.minus.ensures ∙ ap₂ ◌-ᵛ◌ (c.scaled-left.ensures ∙ ap₂ ◌·ᵛ◌ (passed c.dot-k.result c.dot-k.type_inv ∙ c.dot-k.ensures ∙ ap₂ dot c.difference-q.ensures c.along-e.ensures) c.difference-p.ensures) (c.scaled-right.ensures ∙ ap₂ ◌·ᵛ◌ (passed c.dot-l.result c.dot-l.type_inv ∙ c.dot-l.ensures ∙ ap₂ dot c.difference-p.ensures c.along-e.ensures) c.difference-q.ensures)

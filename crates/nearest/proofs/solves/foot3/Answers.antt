@@ -7,7 +7,7 @@ use Rattle.nearest.proofs.Pairs.{near-normal, size_det}
 use Rattle.nearest.proofs.solves.foot3.Goals as goal
 
 pub scaled-requires : goal.scaled-requires
-scaled-requires c = scaly 131712 4704 (size_by (passed c.determinant-d.result c.determinant-d.type-inv ∙ c.determinant-d.ensures) (size_det c.args.a c.args.b c.args.c)) (near_by c.normal-n.ensures (near-normal c.args.a c.args.b c.args.c)) tt tt tt
+scaled-requires c = scaly 131712 4704 (size_by (passed c.determinant-d.result c.determinant-d.type_inv ∙ c.determinant-d.ensures) (size_det c.args.a c.args.b c.args.c)) (near_by c.normal-n.ensures (near-normal c.args.a c.args.b c.args.c)) tt tt tt
 
 pub returns : goal.returns
-returns c = c.scaled.ensures ∙ ap₂ ◌·ᵛ◌ (passed c.determinant-d.result c.determinant-d.type-inv ∙ c.determinant-d.ensures) c.normal-n.ensures
+returns c = c.scaled.ensures ∙ ap₂ ◌·ᵛ◌ (passed c.determinant-d.result c.determinant-d.type_inv ∙ c.determinant-d.ensures) c.normal-n.ensures

@@ -19,8 +19,8 @@ k-is c = c.dot-k.ensures ∙ ap₂ dot c.normal-n.ensures c.difference-s.ensures
 abbrev env : goal.After-determinant-l → List Bv
 env c = num c.dot-k.result (size_by (k-is c) (size_level c.args.a c.args.b c.args.c c.args.d)) (num c.determinant-l.result (size_by c.determinant-l.ensures (size_det c.args.a c.args.b c.args.c)) [])
 
-pub overflow-sub-result : goal.overflow-sub-result
-overflow-sub-result c = fits w64 (env c) (var 0 ⊖ var 1) tt
+pub overflow_sub-result : goal.overflow_sub-result
+overflow_sub-result c = fits w64 (env c) (var 0 ⊖ var 1) tt
 
 pub returns : goal.returns
 returns c = kept_is w64 (env c) (var 0 ⊖ var 1) tt ∙ ap₂ ◌-ℤ◌ (k-is c) c.determinant-l.ensures

@@ -26,8 +26,8 @@ l-is c = c.dot-l.ensures ∙ ap₂ dot c.difference-p.ensures c.along-e.ensures
 abbrev env : goal.After-dot-l → List Bv
 env c = num c.dot-k.result (size_by (k-is c) (size_edge_second c.args.a c.args.b)) (num c.dot-l.result (size_by (l-is c) (size_edge_first c.args.a c.args.b)) [])
 
-pub overflow-sub-result : goal.overflow-sub-result
-overflow-sub-result c = fits w64 (env c) (con (pos 0) ⊖ var 1) tt
+pub overflow_sub-result : goal.overflow_sub-result
+overflow_sub-result c = fits w64 (env c) (con (pos 0) ⊖ var 1) tt
 
 pub returns : goal.returns
 returns c = λ i. (sym (k-is c) ∙ sym (kept_is w64 (env c) (var 0) tt)) i ∷ ((neg_is (dot (between c.args.a) (between c.args.b -ᵛ between c.args.a)) ∙ ap (λ t. pos 0 -ℤ t) (sym (l-is c)) ∙ sym (kept_is w64 (env c) (con (pos 0) ⊖ var 1) tt)) i ∷ [])

@@ -12,26 +12,26 @@ use Rattle.nearest.proofs.solves.weights4.Goals as goal
 abbrev V : Exp
 V = var 0 ⊖ var 1 ⊕ var 2 ⊖ var 3
 
-pub overflow-sub-v : goal.overflow-sub-v
-overflow-sub-v c = fits w64 (a-det c.args.b c.args.c c.args.d c.determinant-k.result c.determinant-k.ensures (a-det c.args.a c.args.c c.args.d c.determinant-l.result c.determinant-l.ensures (a-det c.args.a c.args.b c.args.d c.determinant-m.result c.determinant-m.ensures (a-det c.args.a c.args.b c.args.c c.determinant-n.result c.determinant-n.ensures ([]))))) (var 0 ⊖ var 1) tt
+pub overflow_sub-v : goal.overflow_sub-v
+overflow_sub-v c = fits w64 (a-det c.args.b c.args.c c.args.d c.determinant-k.result c.determinant-k.ensures (a-det c.args.a c.args.c c.args.d c.determinant-l.result c.determinant-l.ensures (a-det c.args.a c.args.b c.args.d c.determinant-m.result c.determinant-m.ensures (a-det c.args.a c.args.b c.args.c c.determinant-n.result c.determinant-n.ensures ([]))))) (var 0 ⊖ var 1) tt
 
-pub overflow-add-v : goal.overflow-add-v
-overflow-add-v c = fits w64 (a-det c.args.b c.args.c c.args.d c.determinant-k.result c.determinant-k.ensures (a-det c.args.a c.args.c c.args.d c.determinant-l.result c.determinant-l.ensures (a-det c.args.a c.args.b c.args.d c.determinant-m.result c.determinant-m.ensures (a-det c.args.a c.args.b c.args.c c.determinant-n.result c.determinant-n.ensures ([]))))) (var 0 ⊖ var 1 ⊕ var 2) tt
+pub overflow_add-v : goal.overflow_add-v
+overflow_add-v c = fits w64 (a-det c.args.b c.args.c c.args.d c.determinant-k.result c.determinant-k.ensures (a-det c.args.a c.args.c c.args.d c.determinant-l.result c.determinant-l.ensures (a-det c.args.a c.args.b c.args.d c.determinant-m.result c.determinant-m.ensures (a-det c.args.a c.args.b c.args.c c.determinant-n.result c.determinant-n.ensures ([]))))) (var 0 ⊖ var 1 ⊕ var 2) tt
 
-pub overflow-sub-v-2 : goal.overflow-sub-v-2
-overflow-sub-v-2 c = fits w64 (a-det c.args.b c.args.c c.args.d c.determinant-k.result c.determinant-k.ensures (a-det c.args.a c.args.c c.args.d c.determinant-l.result c.determinant-l.ensures (a-det c.args.a c.args.b c.args.d c.determinant-m.result c.determinant-m.ensures (a-det c.args.a c.args.b c.args.c c.determinant-n.result c.determinant-n.ensures ([]))))) V tt
+pub overflow_sub-v-2 : goal.overflow_sub-v-2
+overflow_sub-v-2 c = fits w64 (a-det c.args.b c.args.c c.args.d c.determinant-k.result c.determinant-k.ensures (a-det c.args.a c.args.c c.args.d c.determinant-l.result c.determinant-l.ensures (a-det c.args.a c.args.b c.args.d c.determinant-m.result c.determinant-m.ensures (a-det c.args.a c.args.b c.args.c c.determinant-n.result c.determinant-n.ensures ([]))))) V tt
 
-pub overflow-sub-result : goal.overflow-sub-result
-overflow-sub-result c = fits w64 (a-det c.args.b c.args.c c.args.d c.determinant-k.result c.determinant-k.ensures (a-det c.args.a c.args.c c.args.d c.determinant-l.result c.determinant-l.ensures (a-det c.args.a c.args.b c.args.d c.determinant-m.result c.determinant-m.ensures (a-det c.args.a c.args.b c.args.c c.determinant-n.result c.determinant-n.ensures ([]))))) (con (pos 0) ⊖ var 0) tt
+pub overflow_sub-result : goal.overflow_sub-result
+overflow_sub-result c = fits w64 (a-det c.args.b c.args.c c.args.d c.determinant-k.result c.determinant-k.ensures (a-det c.args.a c.args.c c.args.d c.determinant-l.result c.determinant-l.ensures (a-det c.args.a c.args.b c.args.d c.determinant-m.result c.determinant-m.ensures (a-det c.args.a c.args.b c.args.c c.determinant-n.result c.determinant-n.ensures ([]))))) (con (pos 0) ⊖ var 0) tt
 
-pub overflow-sub-result-then-v-lt0 : goal.overflow-sub-result-then-v-lt0
-overflow-sub-result-then-v-lt0 c = fits w64 (a-det c.args.b c.args.c c.args.d c.determinant-k.result c.determinant-k.ensures (a-det c.args.a c.args.c c.args.d c.determinant-l.result c.determinant-l.ensures (a-det c.args.a c.args.b c.args.d c.determinant-m.result c.determinant-m.ensures (a-det c.args.a c.args.b c.args.c c.determinant-n.result c.determinant-n.ensures ([]))))) (con (pos 0) ⊖ var 2) tt
+pub overflow_sub-result-then-v-lt0 : goal.overflow_sub-result-then-v-lt0
+overflow_sub-result-then-v-lt0 c = fits w64 (a-det c.args.b c.args.c c.args.d c.determinant-k.result c.determinant-k.ensures (a-det c.args.a c.args.c c.args.d c.determinant-l.result c.determinant-l.ensures (a-det c.args.a c.args.b c.args.d c.determinant-m.result c.determinant-m.ensures (a-det c.args.a c.args.b c.args.c c.determinant-n.result c.determinant-n.ensures ([]))))) (con (pos 0) ⊖ var 2) tt
 
-pub overflow-sub-result-else-v-lt0 : goal.overflow-sub-result-else-v-lt0
-overflow-sub-result-else-v-lt0 c = fits w64 (a-det c.args.b c.args.c c.args.d c.determinant-k.result c.determinant-k.ensures (a-det c.args.a c.args.c c.args.d c.determinant-l.result c.determinant-l.ensures (a-det c.args.a c.args.b c.args.d c.determinant-m.result c.determinant-m.ensures (a-det c.args.a c.args.b c.args.c c.determinant-n.result c.determinant-n.ensures ([]))))) (con (pos 0) ⊖ var 1) tt
+pub overflow_sub-result-else-v-lt0 : goal.overflow_sub-result-else-v-lt0
+overflow_sub-result-else-v-lt0 c = fits w64 (a-det c.args.b c.args.c c.args.d c.determinant-k.result c.determinant-k.ensures (a-det c.args.a c.args.c c.args.d c.determinant-l.result c.determinant-l.ensures (a-det c.args.a c.args.b c.args.d c.determinant-m.result c.determinant-m.ensures (a-det c.args.a c.args.b c.args.c c.determinant-n.result c.determinant-n.ensures ([]))))) (con (pos 0) ⊖ var 1) tt
 
-pub overflow-sub-result-else-v-lt0-2 : goal.overflow-sub-result-else-v-lt0-2
-overflow-sub-result-else-v-lt0-2 c = fits w64 (a-det c.args.b c.args.c c.args.d c.determinant-k.result c.determinant-k.ensures (a-det c.args.a c.args.c c.args.d c.determinant-l.result c.determinant-l.ensures (a-det c.args.a c.args.b c.args.d c.determinant-m.result c.determinant-m.ensures (a-det c.args.a c.args.b c.args.c c.determinant-n.result c.determinant-n.ensures ([]))))) (con (pos 0) ⊖ var 3) tt
+pub overflow_sub-result-else-v-lt0-2 : goal.overflow_sub-result-else-v-lt0-2
+overflow_sub-result-else-v-lt0-2 c = fits w64 (a-det c.args.b c.args.c c.args.d c.determinant-k.result c.determinant-k.ensures (a-det c.args.a c.args.c c.args.d c.determinant-l.result c.determinant-l.ensures (a-det c.args.a c.args.b c.args.d c.determinant-m.result c.determinant-m.ensures (a-det c.args.a c.args.b c.args.c c.determinant-n.result c.determinant-n.ensures ([]))))) (con (pos 0) ⊖ var 3) tt
 
 pub returns-then-v-lt0 : goal.returns-then-v-lt0
 returns-then-v-lt0 c =

@@ -13,7 +13,7 @@ dot-requires c = roomy 619573248 28 (near-foot c.requires) (near_corner c.requir
 pub returns : goal.returns
 returns c =
     let y = at c.corner-p.result in let h = c.corner-p.ensures in
-    let e = passed c.dot.result c.dot.type-inv ∙ c.dot.ensures in
+    let e = passed c.dot.result c.dot.type_inv ∙ c.dot.ensures in
     record {
       square = square_is c.args.c y _ c.requires h e;
       low = gap-low c.args.c y _ c.requires h e;

@@ -8,11 +8,11 @@ use Rattle.nearest.proofs.Pairs.{size_extent}
 use Rattle.nearest.proofs.Faces.{by_squares, less_≤, not_less_≤}
 use Rattle.nearest.proofs.steps.shorter.Goals as goal
 
-pub overflow-mul-second : goal.overflow-mul-second
-overflow-mul-second c = fits w64 (num c.gap-k.result c.gap-k.ensures.high (num c.gap-l.result c.gap-l.ensures.high (num c.args.c.extent (size_extent c.requires.0) (num c.args.d.extent (size_extent c.requires.1) [])))) (var 1 ⊗ var 2) tt
+pub overflow_mul-second : goal.overflow_mul-second
+overflow_mul-second c = fits w64 (num c.gap-k.result c.gap-k.ensures.high (num c.gap-l.result c.gap-l.ensures.high (num c.args.c.extent (size_extent c.requires.0) (num c.args.d.extent (size_extent c.requires.1) [])))) (var 1 ⊗ var 2) tt
 
-pub overflow-mul-second-2 : goal.overflow-mul-second-2
-overflow-mul-second-2 c = fits w64 (num c.gap-k.result c.gap-k.ensures.high (num c.gap-l.result c.gap-l.ensures.high (num c.args.c.extent (size_extent c.requires.0) (num c.args.d.extent (size_extent c.requires.1) [])))) (var 0 ⊗ var 3) tt
+pub overflow_mul-second-2 : goal.overflow_mul-second-2
+overflow_mul-second-2 c = fits w64 (num c.gap-k.result c.gap-k.ensures.high (num c.gap-l.result c.gap-l.ensures.high (num c.args.c.extent (size_extent c.requires.0) (num c.args.d.extent (size_extent c.requires.1) [])))) (var 0 ⊗ var 3) tt
 
 pub returns-then-second : goal.returns-then-second
 returns-then-second c =

@@ -6,14 +6,14 @@ use Rattle.exact.specs.Space.{at}
 use Rattle.integers.proofs.Environments.{point}
 use Rattle.nearest.proofs.vectors.minus.Goals as goal
 
-pub overflow-sub-result : goal.overflow-sub-result
-overflow-sub-result c = fits w64 (point (at c.args.a) c.requires.0 (point (at c.args.b) c.requires.1 [])) ((pt 0).x ⊖ (pt 1).x) tt
+pub overflow_sub-result : goal.overflow_sub-result
+overflow_sub-result c = fits w64 (point (at c.args.a) c.requires.0 (point (at c.args.b) c.requires.1 [])) ((pt 0).x ⊖ (pt 1).x) tt
 
-pub overflow-sub-result-2 : goal.overflow-sub-result-2
-overflow-sub-result-2 c = fits w64 (point (at c.args.a) c.requires.0 (point (at c.args.b) c.requires.1 [])) ((pt 0).y ⊖ (pt 1).y) tt
+pub overflow_sub-result-2 : goal.overflow_sub-result-2
+overflow_sub-result-2 c = fits w64 (point (at c.args.a) c.requires.0 (point (at c.args.b) c.requires.1 [])) ((pt 0).y ⊖ (pt 1).y) tt
 
-pub overflow-sub-result-3 : goal.overflow-sub-result-3
-overflow-sub-result-3 c = fits w64 (point (at c.args.a) c.requires.0 (point (at c.args.b) c.requires.1 [])) ((pt 0).z ⊖ (pt 1).z) tt
+pub overflow_sub-result-3 : goal.overflow_sub-result-3
+overflow_sub-result-3 c = fits w64 (point (at c.args.a) c.requires.0 (point (at c.args.b) c.requires.1 [])) ((pt 0).z ⊖ (pt 1).z) tt
 
 pub returns : goal.returns
 returns c = kept_is_v w64 (point (at c.args.a) c.requires.0 (point (at c.args.b) c.requires.1 [])) (pt 0 ⊖ᵛ pt 1) tt tt tt

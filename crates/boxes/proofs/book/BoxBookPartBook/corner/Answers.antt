@@ -2,7 +2,7 @@ use Rattle.std.proofs.Common.{ℕ, Bool, true, false, sym, ◌∙◌, subst}
 use Rattle.parts.specs.Corners.{lies}
 use Rattle.boxes.proofs.Listings.{Walked, walked_skip, walked_past, walked_here, walked_out, walked_empty}
 use Rattle.boxes.proofs.book.BoxBookPartBook.corner.Goals as goal
-use Rattle.boxes.proofs.book.BoxBookPartBook.corner.Goals.{in-Some+else-left-lt8, in-default}
+use Rattle.boxes.proofs.book.BoxBookPartBook.corner.Goals.{in-Some+else-left-lt8, in_default}
 
 pub returns-then-left-lt8 : goal.returns-then-left-lt8
 returns-then-left-lt8 c =
@@ -10,13 +10,13 @@ returns-then-left-lt8 c =
     c.loop-entry-test.true c.in-Some.ensures c.numbered.ensures c.if-left-lt8.true c.loop-entry.invariant
 
 pub loop-entry-preserved : goal.loop-entry-preserved
-loop-entry-preserved c = elim c.match-vertex-for.branch [
+loop-entry-preserved c = elim c.match-vertex_for.branch [
   | in-Some+else-left-lt8 w ↦ rw (w.left-is, w.known-is)
       (walked_past c.args.part c.args.k c.loop-entry.entry-index c.loop-entry.left c.args.self.now.entries.now _ c.loop-entry.known c.numbered.result (lies w.in-Some.c)
       c.loop-entry-test.true w.in-Some.ensures w.if-left-lt8.false c.loop-entry.invariant)
-  | in-default w ↦ rw (w.left-is, w.known-is)
+  | in_default w ↦ rw (w.left-is, w.known-is)
       (walked_skip c.args.part c.args.k c.loop-entry.entry-index c.loop-entry.left c.args.self.now.entries.now _ c.loop-entry.known c.numbered.result
-      c.loop-entry-test.true w.in-default.ensures c.loop-entry.invariant)
+      c.loop-entry-test.true w.in_default.ensures c.loop-entry.invariant)
 ]
 
 pub returns-then-known : goal.returns-then-known
@@ -26,6 +26,6 @@ returns-then-known c =
 
 pub returns-else-known : goal.returns-else-known
 returns-else-known c =
-    walked_empty c.args.part c.args.k c.loop-entry.entry-index c.loop-entry.left c.args.self.now.entries.now c.no-such-part.result c.loop-entry-test.false
+    walked_empty c.args.part c.args.k c.loop-entry.entry-index c.loop-entry.left c.args.self.now.entries.now c.no_such_part.result c.loop-entry-test.false
     (subst (λ (b : Bool). Walked c.args.part c.args.k c.args.self.now.entries.now c.loop-entry.entry-index c.loop-entry.left b) c.if-known.false c.loop-entry.invariant)
-    c.no-such-part.ensures
+    c.no_such_part.ensures

@@ -6,4 +6,4 @@ use Rattle.boxes.proofs.entry.Entry.counts_for.Goals as goal
 pub returns : goal.returns
 returns c i =
     eqb c.args.self.part c.args.part
-    && ((near_is 5 (at c.args.self.low) c.is-within.result c.is-within.ensures i && near_is 5 (at c.args.self.high) c.is-within-2.result c.is-within-2.ensures i) && c.is-under.ensures i)
+    && ((near_is 5 (at c.args.self.low) c.is_within.result c.is_within.ensures i && near_is 5 (at c.args.self.high) c.is_within-2.result c.is_within-2.ensures i) && c.is_under.ensures i)

@@ -5,7 +5,7 @@ use Rattle.parts.specs.Corners.{lies}
 use Rattle.boxes.proofs.Entries.{vertex_made}
 use Rattle.boxes.proofs.entry.Entry.vertex_for.Goals as goal
 
-pub returns-then-counts-for : goal.returns-then-counts-for
-returns-then-counts-for c =
-    vertex_made c.args.part c.args.self c.args.octant (at c.vertex-between.result) (option_map lies c.new.result)
-    (sym c.counts-for.ensures ∙ c.if-counts-for.true) c.vertex-between.ensures c.new.ensures
+pub returns-then-counts_for : goal.returns-then-counts_for
+returns-then-counts_for c =
+    vertex_made c.args.part c.args.self c.args.octant (at c.vertex_between.result) (option_map lies c.new.result)
+    (sym c.counts_for.ensures ∙ c.if-counts_for.true) c.vertex_between.ensures c.new.ensures

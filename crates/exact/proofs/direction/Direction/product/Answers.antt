@@ -16,20 +16,20 @@ use Rattle.exact.proofs.direction.Direction.product.Goals as goal
 abbrev env : (d : Direction) (c : Corner) (p : Point) → at p ≡ spot c → List Bv
 env d c p e = point (heading d) d.near (point (at p) (subst (Near 14) (sym e) c.near) [])
 
-pub overflow-mul-result : goal.overflow-mul-result
-overflow-mul-result c = fits w64 (env c.args.self c.args.corner c.point-p.result c.point-p.ensures) ((pt 0).x ⊗ (pt 1).x) tt
+pub overflow_mul-result : goal.overflow_mul-result
+overflow_mul-result c = fits w64 (env c.args.self c.args.corner c.point-p.result c.point-p.ensures) ((pt 0).x ⊗ (pt 1).x) tt
 
-pub overflow-mul-result-2 : goal.overflow-mul-result-2
-overflow-mul-result-2 c = fits w64 (env c.args.self c.args.corner c.point-p.result c.point-p.ensures) ((pt 0).y ⊗ (pt 1).y) tt
+pub overflow_mul-result-2 : goal.overflow_mul-result-2
+overflow_mul-result-2 c = fits w64 (env c.args.self c.args.corner c.point-p.result c.point-p.ensures) ((pt 0).y ⊗ (pt 1).y) tt
 
-pub overflow-add-result : goal.overflow-add-result
-overflow-add-result c = fits w64 (env c.args.self c.args.corner c.point-p.result c.point-p.ensures) ((pt 0).x ⊗ (pt 1).x ⊕ (pt 0).y ⊗ (pt 1).y) tt
+pub overflow_add-result : goal.overflow_add-result
+overflow_add-result c = fits w64 (env c.args.self c.args.corner c.point-p.result c.point-p.ensures) ((pt 0).x ⊗ (pt 1).x ⊕ (pt 0).y ⊗ (pt 1).y) tt
 
-pub overflow-mul-result-3 : goal.overflow-mul-result-3
-overflow-mul-result-3 c = fits w64 (env c.args.self c.args.corner c.point-p.result c.point-p.ensures) ((pt 0).z ⊗ (pt 1).z) tt
+pub overflow_mul-result-3 : goal.overflow_mul-result-3
+overflow_mul-result-3 c = fits w64 (env c.args.self c.args.corner c.point-p.result c.point-p.ensures) ((pt 0).z ⊗ (pt 1).z) tt
 
-pub overflow-add-result-2 : goal.overflow-add-result-2
-overflow-add-result-2 c = fits w64 (env c.args.self c.args.corner c.point-p.result c.point-p.ensures) (dot_e (pt 0) (pt 1)) tt
+pub overflow_add-result-2 : goal.overflow_add-result-2
+overflow_add-result-2 c = fits w64 (env c.args.self c.args.corner c.point-p.result c.point-p.ensures) (dot_e (pt 0) (pt 1)) tt
 
 pub returns : goal.returns
 returns c = kept_is w64 (env c.args.self c.args.corner c.point-p.result c.point-p.ensures) (dot_e (pt 0) (pt 1)) tt ∙ ap (dot (heading c.args.self)) c.point-p.ensures

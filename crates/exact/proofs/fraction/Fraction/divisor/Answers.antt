@@ -18,7 +18,7 @@ returns c =
     let b : Greatest (y ∷ c.gcd-a.result ∷ []) c.gcd-b.result =
     subst (λ (m : ℕ). Greatest (m ∷ c.gcd-a.result ∷ []) c.gcd-b.result) (c.unsigned_abs-3.ensures.value ∙ ap nat_abs (to_z-of_z w64 s.point.y fy)) c.gcd-b.ensures in
     let g : Greatest (x ∷ c.gcd-b.result ∷ []) c.gcd.result =
-    subst (λ (m : ℕ). Greatest (m ∷ c.gcd-b.result ∷ []) c.gcd.result) (c.unsigned-abs-4.ensures.value ∙ ap nat_abs (to_z-of_z w64 s.point.x fx)) c.gcd.ensures in
+    subst (λ (m : ℕ). Greatest (m ∷ c.gcd-b.result ∷ []) c.gcd.result) (c.unsigned_abs-4.ensures.value ∙ ap nat_abs (to_z-of_z w64 s.point.x fx)) c.gcd.ensures in
     let all : Greatest (x ∷ y ∷ z ∷ w ∷ []) c.gcd.result = greatest_more (y ∷ z ∷ w ∷ []) x c.gcd-b.result c.gcd.result (greatest_more (z ∷ w ∷ []) y c.gcd-a.result c.gcd-b.result a b) g in
     let d = all.divides.1.1.1.0 in
-    record { greatest = all; low-bound = divisor_pos c.gcd.result s.over s.positive d; high-bound = divisor_small c.gcd.result s.over s.positive fw d }
+    record { greatest = all; low_bound = divisor_pos c.gcd.result s.over s.positive d; high_bound = divisor_small c.gcd.result s.over s.positive fw d }

@@ -17,10 +17,10 @@ divided-z-requires c = let f : SFits w64 c.args.self.point.z = search rules in (
 pub divided-over-requires : goal.divided-over-requires
 divided-over-requires c = let f : SFits w64 c.args.self.over = search rules in (c.divisor-g.ensures.low_bound, (c.divisor-g.ensures.high_bound, divides-kept c.divisor-g.result c.args.self.over f c.divisor-g.ensures.greatest.divides.1.1.1.0))
 
-pub invariant-of-result : goal.invariant-of-result
-invariant-of-result c =
+pub invariant_of-result : goal.invariant_of-result
+invariant_of-result c =
     let f : SFits w64 c.args.self.over = search rules in
-    (quotient_pos c.divisor-g.result c.args.self.over _ c.args.self.positive (factor-kept c.divisor-g.result c.args.self.over c.divided-over.result f (result_fits c.divided-over.result c.divided-over.type-inv) c.divided-over.ensures), tt)
+    record { positive = quotient_pos c.divisor-g.result c.args.self.over _ c.args.self.positive (factor-kept c.divisor-g.result c.args.self.over c.divided-over.result f (result_fits c.divided-over.result c.divided-over.type_inv) c.divided-over.ensures) }
 
 pub returns : goal.returns
 returns c =
@@ -33,5 +33,5 @@ returns c =
     let ex = factor-kept g s.point.x c.divided-x.result fx (result_fits c.divided-x.result c.divided-x.type_inv) c.divided-x.ensures in
     let ey = factor-kept g s.point.y c.divided-y.result fy (result_fits c.divided-y.result c.divided-y.type_inv) c.divided-y.ensures in
     let ez = factor-kept g s.point.z c.divided-z.result fz (result_fits c.divided-z.result c.divided-z.type_inv) c.divided-z.ensures in
-    let ew = factor-kept g s.over c.divided-over.result fw (result_fits c.divided-over.result c.divided-over.type-inv) c.divided-over.ensures in
-    reduced_by (terms s) _ g c.divisor-g.ensures.low-bound c.divisor-g.ensures.greatest (λ i. ex i ∷ ey i ∷ ez i ∷ ew i ∷ [])
+    let ew = factor-kept g s.over c.divided-over.result fw (result_fits c.divided-over.result c.divided-over.type_inv) c.divided-over.ensures in
+    reduced_by (terms s) _ g c.divisor-g.ensures.low_bound c.divisor-g.ensures.greatest (λ i. ex i ∷ ey i ∷ ez i ∷ ew i ∷ [])

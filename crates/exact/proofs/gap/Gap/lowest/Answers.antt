@@ -3,10 +3,10 @@ use Rattle.integers.proofs.Divisors.{divides_pos, quotient_exact, quotient_some,
 use Rattle.exact.specs.Terms.{parts}
 use Rattle.exact.proofs.gap.Gap.lowest.Goals as goal
 
-pub invariant-of-result : goal.invariant-of-result
-invariant-of-result c =
+pub invariant_of-result : goal.invariant_of-result
+invariant_of-result c =
     let s = c.args.self in let g = c.gcd-g.result in
-    (omega (arith, div-le_self s.p g), (quotient_some s.q g s.over c.gcd-g.ensures.divides.1.0, (omega (arith, div-le_self s.q g), tt)))
+    record { low = omega (arith, div-le_self s.p g); over = quotient_some s.q g s.over c.gcd-g.ensures.divides.1.0; few = omega (arith, div-le_self s.q g) }
 
 pub returns : goal.returns
 returns c =

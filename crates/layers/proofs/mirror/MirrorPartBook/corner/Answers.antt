@@ -8,9 +8,9 @@ pub returns-in-Some : goal.returns-in-Some
 returns-in-Some g c =
     ap (λ p. Ok (Some p)) c.flip.ensures
     ∙ mirrored_corner (g.B.Meaning.meaning c.args.self.now.book c.args.part) c.args.k (Some (lies c.in-Some.c))
-    (ap (λ o. Ok (option_map lies o)) (sym c.in-Some.is) ∙ c.in-ok-c.ensures)
+    (ap (λ o. Ok (option_map lies o)) (sym c.in-Some.is) ∙ c.in_ok-c.ensures)
 
 pub returns-in-None : goal.returns-in-None
 returns-in-None g c =
     mirrored_corner (g.B.Meaning.meaning c.args.self.now.book c.args.part) c.args.k None
-    (ap (λ o. Ok (option_map lies o)) (sym c.in-None.is) ∙ c.in-ok-c.ensures)
+    (ap (λ o. Ok (option_map lies o)) (sym c.in-None.is) ∙ c.in_ok-c.ensures)

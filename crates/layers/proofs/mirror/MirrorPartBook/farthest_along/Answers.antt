@@ -4,5 +4,5 @@ use Rattle.layers.proofs.mirror.MirrorPartBook.farthest_along.Goals as goal
 
 pub returns : goal.returns
 returns g c =
-    mirrored-found (g.B.Meaning.meaning c.args.self.now.book c.args.part) (heading c.args.direction) (heading c.flip-direction.result)
-    c.in-ok-c.c c.flip.result c.flip-direction.ensures c.flip.ensures c.in-ok-c.ensures
+    mirrored-found (g.B.Meaning.meaning c.args.self.now.book c.args.part) (heading c.args.direction) (heading c.flip_direction.result)
+    c.in_ok-c.c c.flip.result c.flip_direction.ensures c.flip.ensures c.in_ok-c.ensures

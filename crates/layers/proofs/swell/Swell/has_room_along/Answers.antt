@@ -3,12 +3,12 @@ use Rattle.exact.specs.Spots.{heading}
 use Rattle.layers.proofs.Rooms.{too_far, has_room}
 use Rattle.layers.proofs.swell.Swell.has_room_along.Goals as goal
 
-pub returns-then-is-beyond : goal.returns-then-is-beyond
-returns-then-is-beyond g c =
-    too_far c.args.self.now.by c.args.part (heading c.args.axis) (g.B.Meaning.meaning c.args.self.now.book c.args.part) c.in-ok-c.c
-    (sym c.is-beyond.ensures ∙ c.if-is-beyond.true) c.in-ok-c.ensures
+pub returns-then-is_beyond : goal.returns-then-is_beyond
+returns-then-is_beyond g c =
+    too_far c.args.self.now.by c.args.part (heading c.args.axis) (g.B.Meaning.meaning c.args.self.now.book c.args.part) c.in_ok-c.c
+    (sym c.is_beyond.ensures ∙ c.if-is_beyond.true) c.in_ok-c.ensures
 
 pub returns : goal.returns
 returns g c =
-    has_room c.args.self.now.by c.args.part (heading c.args.axis) (g.B.Meaning.meaning c.args.self.now.book c.args.part) c.in-ok-c.c
-    (sym c.is-beyond.ensures ∙ c.if-is-beyond.false) c.in-ok-c.ensures
+    has_room c.args.self.now.by c.args.part (heading c.args.axis) (g.B.Meaning.meaning c.args.self.now.book c.args.part) c.in_ok-c.c
+    (sym c.is_beyond.ensures ∙ c.if-is_beyond.false) c.in_ok-c.ensures

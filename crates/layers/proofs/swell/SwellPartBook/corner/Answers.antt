@@ -6,23 +6,23 @@ use Rattle.parts.proofs.Boxes.{box_nth}
 use Rattle.layers.specs.SwellsLemmas.{swelled_corner_refused, corner_roomy, swelled_corner}
 use Rattle.layers.proofs.swell.SwellPartBook.corner.Goals as goal
 
-pub returns-in-err-has-room : goal.returns-in-err-has-room
-returns-in-err-has-room g c =
+pub returns-in_err-has_room : goal.returns-in_err-has_room
+returns-in_err-has_room g c =
     let (s, is, from) = err_from_is_err_and c.from-residual.result c.from-residual.ensures.1 in
-    rw (is, from) (swelled_corner_refused c.args.self.now.by c.args.part c.args.k (g.B.Meaning.meaning c.args.self.now.book c.args.part) _ c.in-err-has-room.ensures)
+    rw (is, from) (swelled_corner_refused c.args.self.now.by c.args.part c.args.k (g.B.Meaning.meaning c.args.self.now.book c.args.part) _ c.in_err-has_room.ensures)
 
 pub widen-requires : goal.widen-requires
 widen-requires g c =
-    corner_roomy c.args.self.now.by c.args.part (c.args.k / 8) (g.B.Meaning.meaning c.args.self.now.book c.args.part) c.in-Some.c c.in-ok-has-room.ensures
-    (ap (λ o. Ok (option_map lies o)) (sym c.in-Some.is) ∙ c.in-ok-c.ensures)
+    corner_roomy c.args.self.now.by c.args.part (c.args.k / 8) (g.B.Meaning.meaning c.args.self.now.book c.args.part) c.in-Some.c c.in_ok-has_room.ensures
+    (ap (λ o. Ok (option_map lies o)) (sym c.in-Some.is) ∙ c.in_ok-c.ensures)
 
 pub returns-in-Some : goal.returns-in-Some
 returns-in-Some g c =
     ap Ok (ap Some c.widen.ensures ∙ sym (box_nth _ _ (c.args.k % 8) c.numbered.result c.numbered.ensures))
-    ∙ swelled_corner c.args.self.now.by c.args.part c.args.k (g.B.Meaning.meaning c.args.self.now.book c.args.part) (Some (lies c.in-Some.c)) c.in-ok-has-room.ensures
-    (ap (λ o. Ok (option_map lies o)) (sym c.in-Some.is) ∙ c.in-ok-c.ensures)
+    ∙ swelled_corner c.args.self.now.by c.args.part c.args.k (g.B.Meaning.meaning c.args.self.now.book c.args.part) (Some (lies c.in-Some.c)) c.in_ok-has_room.ensures
+    (ap (λ o. Ok (option_map lies o)) (sym c.in-Some.is) ∙ c.in_ok-c.ensures)
 
 pub returns-in-None : goal.returns-in-None
 returns-in-None g c =
-    swelled_corner c.args.self.now.by c.args.part c.args.k (g.B.Meaning.meaning c.args.self.now.book c.args.part) None c.in-ok-has-room.ensures
-    (ap (λ o. Ok (option_map lies o)) (sym c.in-None.is) ∙ c.in-ok-c.ensures)
+    swelled_corner c.args.self.now.by c.args.part c.args.k (g.B.Meaning.meaning c.args.self.now.book c.args.part) None c.in_ok-has_room.ensures
+    (ap (λ o. Ok (option_map lies o)) (sym c.in-None.is) ∙ c.in_ok-c.ensures)

@@ -25,8 +25,8 @@ is c =
       | in-ThreeQuarters w ↦ by_turn p w.in-ThreeQuarters.is (ap point w.result-is) (same (omega (arith, ints)) (omega (arith, ints)) (omega (arith, ints)))
     ]
 
-pub invariant-of-result : goal.invariant-of-result
-invariant-of-result c = (subst (Near 5) (sym (is c)) (turned-near 5 c.args.self (lies c.args.c) c.args.c.near), tt)
+pub invariant_of-result : goal.invariant_of-result
+invariant_of-result c = (subst (Near 5) (sym (is c)) (turned-near 5 c.args.self (lies c.args.c) c.args.c.near), tt)
 
 pub returns : goal.returns
 returns c = is (goal.at.returns c).Joined-self

@@ -21,8 +21,8 @@ is c =
       | in-ThreeQuarters w ↦ by_turn d w.in-ThreeQuarters.is (ap at w.along-is) (same (omega (arith, ints)) (omega (arith, ints)) (omega (arith, ints)))
     ]
 
-pub invariant-of-result : goal.invariant-of-result
-invariant-of-result c = (subst (Near 2000000000) (sym (is c)) (turned-near 2000000000 c.args.self (heading c.args.direction) c.args.direction.near), tt)
+pub invariant_of-result : goal.invariant_of-result
+invariant_of-result c = (subst (Near 2000000000) (sym (is c)) (turned-near 2000000000 c.args.self (heading c.args.direction) c.args.direction.near), tt)
 
 pub returns : goal.returns
 returns c = is (goal.at.returns c).Joined-self

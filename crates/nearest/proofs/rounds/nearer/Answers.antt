@@ -11,7 +11,7 @@ use Rattle.nearest.specs.Shapes.{between, Sound}
 use Rattle.nearest.proofs.Rooms.{roomy}
 use Rattle.nearest.proofs.Pairs.{near-between, near-foot, size_extent, size_product, size_square}
 use Rattle.nearest.proofs.Faces.{less, not_less_≤}
-use Rattle.nearest.proofs.search.nearer.Goals as goal
+use Rattle.nearest.proofs.rounds.nearer.Goals as goal
 
 pub dot-k-requires : goal.dot-k-requires
 dot-k-requires c = roomy 619573248 28 (near-foot c.requires) (near_by c.difference-p.ensures (near-between c.args.w)) tt tt tt
@@ -22,8 +22,8 @@ dot-s-requires c = roomy 619573248 619573248 (near-foot c.requires) (near-foot c
 abbrev env : {c : Carrier} (w : Pair) (k s : ℤ) → Sound c → k ≡ dot (at c.foot) (between w) → s ≡ dot (at c.foot) (at c.foot) → List Bv
 env {c} w k s h p q = num c.extent (size_extent h) (num k (size_by p (size_product h (between w) (near-between w))) (num s (size_by q (size_square h)) []))
 
-pub overflow-mul-result : goal.overflow-mul-result
-overflow-mul-result c = fits w64 (env c.args.w c.dot-k.result c.dot-s.result c.requires (c.dot-k.ensures ∙ ap (λ t. dot (at c.args.c.foot) t) c.difference-p.ensures) c.dot-s.ensures) (var 0 ⊗ var 1) tt
+pub overflow_mul-result : goal.overflow_mul-result
+overflow_mul-result c = fits w64 (env c.args.w c.dot-k.result c.dot-s.result c.requires (c.dot-k.ensures ∙ ap (λ t. dot (at c.args.c.foot) t) c.difference-p.ensures) c.dot-s.ensures) (var 0 ⊗ var 1) tt
 
 pub returns : goal.returns
 returns c =
