@@ -17,9 +17,10 @@ fn measured(first: &[Corner], second: &[Corner]) -> Result<Measurement, Fail> {
     }
 }
 
-// Whether the measurement is d / w with the squared gap p / q.
+// Whether the measurement of this case is d / w with the squared gap p / q.
 fn says(
     rt: &impl Abort,
+    case: &str,
     first: &[Corner],
     second: &[Corner],
     d: (i64, i64, i64),
@@ -29,10 +30,10 @@ fn says(
 ) -> Result<(), Fail> {
     let m = measured(first, second)?;
     let (x, y, z) = d;
-    assert_eq!(rt; m.d, Point { x, y, z });
-    assert_eq!(rt; m.w, w);
-    assert_eq!(rt; m.gap.p, p);
-    assert_eq!(rt; m.gap.q, q);
+    assert_eq!(rt; m.d, Point { x, y, z }, "{case}");
+    assert_eq!(rt; m.w, w, "{case}");
+    assert_eq!(rt; m.gap.p, p, "{case}");
+    assert_eq!(rt; m.gap.q, q, "{case}");
     Ok(())
 }
 
@@ -55,6 +56,7 @@ fn fractions_of_a_step(rt: HostRuntime) -> Result<(), Fail> {
     let origin = [at!(0, 0, 0)];
     says(
         &rt,
+        "the gap of a half",
         &[at!(1, 0, 0), at!(0, 1, 0)],
         &origin,
         (1, 1, 0),
@@ -64,6 +66,7 @@ fn fractions_of_a_step(rt: HostRuntime) -> Result<(), Fail> {
     )?;
     says(
         &rt,
+        "the gap of a third",
         &[at!(1, 0, 0), at!(0, 1, 0), at!(0, 0, 1)],
         &origin,
         (1, 1, 1),
@@ -73,6 +76,7 @@ fn fractions_of_a_step(rt: HostRuntime) -> Result<(), Fail> {
     )?;
     says(
         &rt,
+        "the gap of four ninths",
         &[at!(2, 0, 0), at!(0, 1, 0), at!(0, 0, 1)],
         &origin,
         (2, 4, 4),
@@ -83,6 +87,7 @@ fn fractions_of_a_step(rt: HostRuntime) -> Result<(), Fail> {
     let face = [at!(-12, -9, -5), at!(14, 6, 2), at!(-14, 12, 11)];
     says(
         &rt,
+        "the face of a slanted solid",
         &face,
         &[at!(-3, 5, 4)],
         (-93, 430, -576),
@@ -95,21 +100,49 @@ fn fractions_of_a_step(rt: HostRuntime) -> Result<(), Fail> {
 #[test]
 fn a_touch_and_a_step_off_it(rt: HostRuntime) -> Result<(), Fail> {
     let cube = cuboid!(-1, -1, -1; 1, 1, 1);
-    says(&rt, &cube, &cuboid!(1, -1, -1; 3, 1, 1), (0, 0, 0), 1, 0, 1)?;
-    says(&rt, &cube, &cuboid!(1, 1, 1; 3, 3, 3), (0, 0, 0), 1, 0, 1).note("corner on corner")?;
     says(
         &rt,
+        "face on face",
+        &cube,
+        &cuboid!(1, -1, -1; 3, 1, 1),
+        (0, 0, 0),
+        1,
+        0,
+        1,
+    )?;
+    says(
+        &rt,
+        "corner on corner",
+        &cube,
+        &cuboid!(1, 1, 1; 3, 3, 3),
+        (0, 0, 0),
+        1,
+        0,
+        1,
+    )?;
+    says(
+        &rt,
+        "edge against edge",
         &cube,
         &cuboid!(2, 2, -1; 4, 4, 1),
         (-1, -1, 0),
         1,
         2,
         1,
-    )
-    .note("edge against edge")?;
-    says(&rt, &cube, &[at!(2, 2, 2)], (-1, -1, -1), 1, 3, 1)?;
+    )?;
     says(
         &rt,
+        "corner before a corner",
+        &cube,
+        &[at!(2, 2, 2)],
+        (-1, -1, -1),
+        1,
+        3,
+        1,
+    )?;
+    says(
+        &rt,
+        "face above face",
         &cube,
         &cuboid!(-14, -14, -14; 14, 14, -2),
         (0, 0, 1),
@@ -117,17 +150,35 @@ fn a_touch_and_a_step_off_it(rt: HostRuntime) -> Result<(), Fail> {
         1,
         1,
     )
-    .note("face above face")
 }
 
 #[test]
 fn inside_and_equal(rt: HostRuntime) -> Result<(), Fail> {
     let cube = cuboid!(-6, -6, -6; 6, 6, 6);
-    says(&rt, &cube, &cube, (0, 0, 0), 1, 0, 1)?;
-    says(&rt, &cube, &[at!(1, 2, 3)], (0, 0, 0), 1, 0, 1)?;
-    says(&rt, &[at!(0, 0, 0)], &cube, (0, 0, 0), 1, 0, 1)?;
+    says(&rt, "a cube and itself", &cube, &cube, (0, 0, 0), 1, 0, 1)?;
     says(
         &rt,
+        "a corner inside a cube",
+        &cube,
+        &[at!(1, 2, 3)],
+        (0, 0, 0),
+        1,
+        0,
+        1,
+    )?;
+    says(
+        &rt,
+        "a cube around a corner",
+        &[at!(0, 0, 0)],
+        &cube,
+        (0, 0, 0),
+        1,
+        0,
+        1,
+    )?;
+    says(
+        &rt,
+        "opposite ends of the table",
         &[at!(14, -14, 14)],
         &[at!(-14, 14, -14)],
         (28, -28, 28),
@@ -142,6 +193,7 @@ fn in_a_line_in_a_plane_and_twice(rt: HostRuntime) -> Result<(), Fail> {
     let line = [at!(0, 0, 0), at!(3, 0, 0), at!(1, 0, 0), at!(3, 0, 0)];
     says(
         &rt,
+        "corners in a line",
         &line,
         &[at!(2, 5, 0), at!(2, 5, 0)],
         (0, -5, 0),
@@ -150,9 +202,36 @@ fn in_a_line_in_a_plane_and_twice(rt: HostRuntime) -> Result<(), Fail> {
         1,
     )?;
     let square = [at!(-1, -1, 0), at!(-1, 1, 0), at!(1, -1, 0), at!(1, 1, 0)];
-    says(&rt, &square, &[at!(0, 0, 3)], (0, 0, -3), 1, 9, 1)?;
-    says(&rt, &square, &[at!(0, 0, 0)], (0, 0, 0), 1, 0, 1).note("in the plane, inside")?;
-    says(&rt, &square, &[at!(3, 3, 0)], (-2, -2, 0), 1, 8, 1).note("in the plane, outside")
+    says(
+        &rt,
+        "above a square",
+        &square,
+        &[at!(0, 0, 3)],
+        (0, 0, -3),
+        1,
+        9,
+        1,
+    )?;
+    says(
+        &rt,
+        "in the plane, inside",
+        &square,
+        &[at!(0, 0, 0)],
+        (0, 0, 0),
+        1,
+        0,
+        1,
+    )?;
+    says(
+        &rt,
+        "in the plane, outside",
+        &square,
+        &[at!(3, 3, 0)],
+        (-2, -2, 0),
+        1,
+        8,
+        1,
+    )
 }
 
 #[test]
