@@ -1,7 +1,7 @@
 -- The farthest corner of a part: that of the entry that reaches farthest.
 use Rattle.std.proofs.Common.{◌≡◌, ℕ, zero, suc, ◌<◌, Bool, true, false, cond, List, [], ◌∷◌, ◌++◌, length, get_or, ℤ, ◌≤ℤ◌, Some, None, Ok, Err, filter, Option, sym, refl, ap, ◌∙◌, subst, arith}
 use lib.Signed.{le_z}
-use Rattle.std.specs.List.{ContainsAt as Has, flat_map, AllByRecursion as All}
+use Rattle.std.specs.List.{ContainsAt as Has, flat_map, AllByRecursion}
 use Rattle.std.proofs.ByRecursion.{All-weaker, All-from_get_or, has_get_or}
 use Rattle.std.proofs.lemmas.Int.{ints}
 use Rattle.std.proofs.lemmas.Bool.{cond-true, cond-false}
@@ -25,7 +25,7 @@ use Rattle.parts.proofs.Blocks.{all_joined, has_joined, has_first, has_later}
 use Rattle.boxes.specs.declared.entry.Entry.{Entry}
 use Rattle.boxes.specs.Entries.{counts_for_part, corners_of, corners_or, listed, boxed}
 use Rattle.boxes.specs.Reaches.{reach_of}
-use Rattle.boxes.proofs.Entries.{counted, kept-all}
+use Rattle.boxes.specs.EntryLaws.{counted, kept-all}
 
 -- the corner of an entry's box
 abbrev pub vertex_of : Entry → Octant → Pt
@@ -72,7 +72,7 @@ kept_has test (y ∷ xs) x t (suc k, l, e) = go (test y) (kept_has test xs x t (
     go true h = has_later y x (filter test xs) h
     go false h = h
 
-kept_none : {X : Type 0} (test : X → Bool) (xs : List X) → All (λ x. test x ≡ false) xs → filter test xs ≡ []
+kept_none : {X : Type 0} (test : X → Bool) (xs : List X) → AllByRecursion (λ x. test x ≡ false) xs → filter test xs ≡ []
 kept_none test [] h = refl
 kept_none test (x ∷ xs) h = cond-false (test x) _ _ h.0 ∙ kept_none test xs h.1
 
@@ -96,7 +96,7 @@ boxed-found n d es e o s c h way v =
     found_some (part_missing BoxBook n) (listed n es) d c (record {
       one = has_joined corners_of (filter (counts_for_part n) es) best (lies c) (kept_has (counts_for_part n) es best t (has_get_or es s.candidate e h.inside)) (subst (λ p. Has (corners_of best) p) (sym is) (box_has (at best.low) (at best.high) o));
       most = all_joined (λ p. dot d p ≤ℤ dot d (lies c)) corners_of (filter (counts_for_part n) es)
-          (kept-all (counts_for_part n) (λ x. All (λ p. dot d p ≤ℤ dot d (lies c)) (corners_of x)) es
+          (kept-all (counts_for_part n) (λ x. AllByRecursion (λ p. dot d p ≤ℤ dot d (lies c)) (corners_of x)) es
           (All-from_get_or _ es e (λ k l u. All-weaker (λ p. dot d p ≤ℤ dot d (vertex_of (get_or es k e) (towards d))) (λ p. dot d p ≤ℤ dot d (lies c))
           (λ p m. ≤ℤ_trans m (no_larger (dot d (vertex_of (get_or es k e) (towards d))) (dot d (lies c)) (judged (get_or es k e) u (subst (λ v. better (reach_of n d (get_or es k e)) v ≡ true) at-best (h.best k e l)))))
           (corners_of (get_or es k e)) (box-farthest d (at (get_or es k e).low) (at (get_or es k e).high) (counted n (get_or es k e) u).under))));

@@ -3,6 +3,7 @@ ghost use Rattle.std.specs.Prelude.{◌≡◌};
 ghost use Rattle.refusals.specs.declared.Layer.TheVariants.{BoxBook as of_box_book};
 ghost use Rattle.refusals.specs.Slips.{part_missing};
 ghost use Rattle.boxes.specs.Entries.{boxed};
+ghost use Rattle.boxes.specs.EntryLaws.{boxed-some, boxed-near};
 
 use crate::entry::Entry;
 use crate::reach::Reach;
@@ -41,6 +42,10 @@ fn no_such_part(part: u16) -> Refusal
 
 impl<'a> Meaning for BoxBook<'a> {
     ghost meaning = { λ b n. boxed b.entries.now n };
+
+    ghost some = { λ b n. boxed-some b.entries.now n };
+
+    ghost near = { λ b n. boxed-near b.entries.now n };
 }
 
 impl<'a> PartBook for BoxBook<'a> {

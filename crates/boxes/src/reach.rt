@@ -4,7 +4,7 @@ ghost use Rattle.boxes.specs.Reaches.{reach_of};
 
 use crate::entry::Entry;
 use exact::direction::Direction;
-use exact::scores::{Product, Score as _};
+use exact::scores::Product;
 use parts::octant::Octant;
 use search::listed::Scoring;
 

@@ -1,7 +1,7 @@
 -- The part of a simplex that carries its shortest mean: from the best of its faces, and for any independent points.
 use Rattle.std.proofs.Common.{◌≡◌, ℕ, zero, suc, ◌<◌, ◌⊎◌, List, [], ◌∷◌, ◌++◌, length, get_or, ℤ, pos, ◌*ℤ◌, ◌≤ℤ◌, ◌<ℤ◌, sym, refl, subst, inl, inr, eq-or-lt_of_le, arith}
 use lib.Signed.{≤ℤ_refl}
-use Rattle.std.specs.List.{ContainsAt as Has, AllByRecursion as All}
+use Rattle.std.specs.List.{ContainsAt as Has, AllByRecursion}
 use Rattle.std.proofs.ByRecursion.{All-weaker, all-has, all_has_itself}
 use Rattle.std.proofs.lemmas.Int.{ints, by_lt_z}
 use Rattle.integers.specs.Points.{Pt, dot}
@@ -20,11 +20,11 @@ use Rattle.convex.proofs.Progress.{progress_push}
 use Rattle.convex.proofs.Faces.{faces_shortest}
 
 -- with positive weights the foot is the shortest mean
-foot-carried : (S : List Pt) → Independent S → All (λ k. pos 0 <ℤ k) (weights S) → Shortest S (footing S)
+foot-carried : (S : List Pt) → Independent S → AllByRecursion (λ k. pos 0 <ℤ k) (weights S) → Shortest S (footing S)
 foot-carried S i k = foot-shortest (foot_laws S i.some i.few) i.apart (All-weaker _ _ (λ _. <ℤ→≤ℤ) (weights S) k)
 
 -- so the points carry themselves
-pub carries_itself : (S : List Pt) → Independent S → All (λ k. pos 0 <ℤ k) (weights S) → Carries S S
+pub carries_itself : (S : List Pt) → Independent S → AllByRecursion (λ k. pos 0 <ℤ k) (weights S) → Carries S S
 carries_itself S i k = record { among = all_has_itself S; independent = i; inside = k; shortest = foot-carried S i k }
 
 -- what carries others is a mean of itself
@@ -82,11 +82,11 @@ best_done ys S i j j< o b =
 
 -- ---- independent points have a carrier
 -- all weights are positive, or one is not
-positive_or_not : (ks : List ℤ) → All (λ k. pos 0 <ℤ k) ks ⊎ ((j : ℕ) × (j < length ks) × (get_or ks j (pos 0) ≤ℤ pos 0))
+positive_or_not : (ks : List ℤ) → AllByRecursion (λ k. pos 0 <ℤ k) ks ⊎ ((j : ℕ) × (j < length ks) × (get_or ks j (pos 0) ≤ℤ pos 0))
 positive_or_not [] = inl tt
 positive_or_not (k ∷ ks) = by_lt_z (pos 0) k (λ l. more l (positive_or_not ks)) (λ l. inr (zero, omega arith, l))
   where
-    more : pos 0 <ℤ k → All (λ k. pos 0 <ℤ k) ks ⊎ ((j : ℕ) × (j < length ks) × (get_or ks j (pos 0) ≤ℤ pos 0)) → All (λ k. pos 0 <ℤ k) (k ∷ ks) ⊎ ((j : ℕ) × (j < suc (length ks)) × (get_or (k ∷ ks) j (pos 0) ≤ℤ pos 0))
+    more : pos 0 <ℤ k → AllByRecursion (λ k. pos 0 <ℤ k) ks ⊎ ((j : ℕ) × (j < length ks) × (get_or ks j (pos 0) ≤ℤ pos 0)) → AllByRecursion (λ k. pos 0 <ℤ k) (k ∷ ks) ⊎ ((j : ℕ) × (j < suc (length ks)) × (get_or (k ∷ ks) j (pos 0) ≤ℤ pos 0))
     more l (inl h) = inl (l, h)
     more l (inr (j, h, o)) = inr (suc j, omega arith, o)
 
@@ -107,7 +107,7 @@ carrier_of zero (a ∷ []) e h = (a ∷ [], carries_itself (a ∷ []) h (omega (
 carrier_of zero (a ∷ (b ∷ ys)) e h = absurd (omega arith)
 carrier_of (suc n) ys e h = ways (positive_or_not (weights ys)) (λ i l. carrier_of n (without i ys) (omega (arith, length_without i ys l)) (independent-without ys i (omega arith) l h))
   where
-    ways : All (λ k. pos 0 <ℤ k) (weights ys) ⊎ ((j : ℕ) × (j < length (weights ys)) × (get_or (weights ys) j (pos 0) ≤ℤ pos 0)) → ((i : ℕ) → i < length ys → (S : List Pt) × Carries S (without i ys)) → (S : List Pt) × Carries S ys
+    ways : AllByRecursion (λ k. pos 0 <ℤ k) (weights ys) ⊎ ((j : ℕ) × (j < length (weights ys)) × (get_or (weights ys) j (pos 0) ≤ℤ pos 0)) → ((i : ℕ) → i < length ys → (S : List Pt) × Carries S (without i ys)) → (S : List Pt) × Carries S ys
     ways (inl k) face = (ys, carries_itself ys h k)
     ways (inr (j, l, o)) face = let (S, b) = best_of ys face (suc n) (omega arith) in (S, best_done ys S h j (omega (arith, (foot_laws ys h.some h.few).one_each)) o (subst (λ m. Best ys m S) (sym e) b))
 

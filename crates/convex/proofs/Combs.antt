@@ -1,6 +1,6 @@
 -- Sums of weighted points.
 use Rattle.std.proofs.Common.{◌≡◌, ℕ, zero, suc, ◌<◌, List, [], ◌∷◌, map, length, get_or, ℤ, pos, negsuc, ◌+ℤ◌, ◌*ℤ◌, nat_abs, ◌≤ℤ◌, ◌<ℤ◌, sym, refl, ap, ◌∙◌, ap₂, arith, lt→ltb}
-use Rattle.std.specs.List.{AllByRecursion as All}
+use Rattle.std.specs.List.{AllByRecursion}
 use Rattle.std.proofs.lemmas.Int.{ints}
 use Rattle.integers.specs.Points.{Pt, ◌+ᵛ◌, ◌·ᵛ◌, dot, origin}
 use Rattle.integers.proofs.Solver.{var, con, ◌⊕◌, ◌⊗◌, solve}
@@ -12,10 +12,10 @@ use Rattle.convex.specs.Hulls.{comb, totalℤ, without}
 
 -- no weight is negative
 abbrev pub Nonneg : List ℤ → Type 0
-Nonneg ks = All (λ k. pos 0 ≤ℤ k) ks
+Nonneg ks = AllByRecursion (λ k. pos 0 ≤ℤ k) ks
 
 -- Σ kᵢ c ≤ E · Σ kᵢ yᵢ, where c ≤ E · yᵢ for each i and no weight is negative
-pub dot_comb≥ : (E : Pt) (c : ℤ) (ks : List ℤ) (ys : List Pt) → length ks ≡ length ys → Nonneg ks → All (λ y. c ≤ℤ dot E y) ys → (totalℤ ks *ℤ c) ≤ℤ dot E (comb ks ys)
+pub dot_comb≥ : (E : Pt) (c : ℤ) (ks : List ℤ) (ys : List Pt) → length ks ≡ length ys → Nonneg ks → AllByRecursion (λ y. c ≤ℤ dot E y) ys → (totalℤ ks *ℤ c) ≤ℤ dot E (comb ks ys)
 dot_comb≥ E c [] ys e n h = prove≤ (pts (E ∷ []) (c ∷ [])) (con (pos 0) ⊗ var 3) (dot_e (pt 0) origin_e) [] refl
 dot_comb≥ E c (k ∷ ks) [] e n h = absurd (omega arith)
 dot_comb≥ E c (k ∷ ks) (y ∷ ys) e n h =
@@ -24,7 +24,7 @@ dot_comb≥ E c (k ∷ ks) (y ∷ ys) e n h =
     (nn K n.0 ⊠ le C (dot_e F Y) h.0 ∷ le (T ⊗ C) (dot_e F X) (dot_comb≥ E c ks ys (omega arith) n.1 h.1) ∷ []) refl
 
 -- E · Σ kᵢ yᵢ = Σ kᵢ c, where E · yᵢ = c for each i
-pub dot-comb : (E : Pt) (c : ℤ) (ks : List ℤ) (ys : List Pt) → length ks ≡ length ys → All (λ y. dot E y ≡ c) ys → dot E (comb ks ys) ≡ totalℤ ks *ℤ c
+pub dot-comb : (E : Pt) (c : ℤ) (ks : List ℤ) (ys : List Pt) → length ks ≡ length ys → AllByRecursion (λ y. dot E y ≡ c) ys → dot E (comb ks ys) ≡ totalℤ ks *ℤ c
 dot-comb E c [] ys e h = prove≡ (pts (E ∷ []) (c ∷ [])) (dot_e (pt 0) origin_e) (con (pos 0) ⊗ var 3) [] refl
 dot-comb E c (k ∷ ks) [] e h = absurd (omega arith)
 dot-comb E c (k ∷ ks) (y ∷ ys) e h =
@@ -97,7 +97,7 @@ total-without i [] z = refl
 total-without zero (k ∷ ks) z = omega (arith, ints)
 total-without (suc i) (k ∷ ks) z = ap (λ t. k +ℤ t) (total-without i ks z)
 
-pub all_without : {X : Type 0} (P : X → Type 0) (i : ℕ) (xs : List X) → All P xs → All P (without i xs)
+pub all_without : {X : Type 0} (P : X → Type 0) (i : ℕ) (xs : List X) → AllByRecursion P xs → AllByRecursion P (without i xs)
 all_without P i [] n = tt
 all_without P zero (x ∷ xs) n = n.1
 all_without P (suc i) (x ∷ xs) n = (n.0, all_without P i xs n.1)

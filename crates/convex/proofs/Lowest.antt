@@ -1,6 +1,6 @@
 -- In lowest terms a fraction, and a ratio of two numbers, can be written in one way only.
 use Rattle.std.proofs.Common.{◌≡◌, ℕ, zero, suc, ◌+◌, ◌-◌, ◌<◌, ◌≤◌, ◌⊎◌, List, [], ◌∷◌, map, get_or, ℤ, pos, negsuc, ◌+ℤ◌, ◌-ℤ◌, ◌*ℤ◌, nat_abs, ◌<ℤ◌, sym, refl, ap, ◌∙◌, subst, ap₂, inl, inr, mul_comm, eq-or-lt_of_le, arith}
-use Rattle.std.specs.List.{AllByRecursion as All}
+use Rattle.std.specs.List.{AllByRecursion}
 use Rattle.std.proofs.lemmas.Int.{ints}
 use Rattle.std.proofs.lemmas.Bool.{cases_lt}
 use Rattle.integers.specs.Points.{Pt, ◌·ᵛ◌, dot}
@@ -63,7 +63,7 @@ multiples (suc f) v w l p q n m e = ways (cases_lt v w) (multiples f)
     ways (inr h) smaller = at_most (eq-or-lt_of_le h) smaller
 
 -- a common factor of ns divides each of them
-all_divided : (a : ℕ) (ns : List ℤ) (r : ℕ → ℤ) → ((i : ℕ) → get_or ns i (pos 0) ≡ pos a *ℤ r i) → All (Divides a) (map nat_abs ns)
+all_divided : (a : ℕ) (ns : List ℤ) (r : ℕ → ℤ) → ((i : ℕ) → get_or ns i (pos 0) ≡ pos a *ℤ r i) → AllByRecursion (Divides a) (map nat_abs ns)
 all_divided a [] r e = tt
 all_divided a (n ∷ ns) r e = ((nat_abs (r 0), ap nat_abs (e 0) ∙ abs_product (pos a) (r 0) ∙ mul_comm a (nat_abs (r 0))), all_divided a ns (λ i. r (suc i)) (λ i. e (suc i)))
 

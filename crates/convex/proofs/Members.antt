@@ -1,6 +1,6 @@
 -- A mean of some of the points, with repetitions, is a mean of the points; and a mean of differences of corners is a difference of means.
 use Rattle.std.proofs.Common.{◌≡◌, ℕ, suc, List, [], ◌∷◌, length, ℤ, pos, ◌+ℤ◌, ◌*ℤ◌, ◌<ℤ◌, refl, ap, ◌∙◌, ap₂, arith}
-use Rattle.std.specs.List.{ContainsAt as Has, AllByRecursion as All}
+use Rattle.std.specs.List.{ContainsAt as Has, AllByRecursion}
 use Rattle.std.proofs.ByRecursion.{all_has_itself}
 use Rattle.std.proofs.lemmas.Int.{ints}
 use Rattle.integers.specs.Points.{Pt, ◌+ᵛ◌, ◌-ᵛ◌, ◌·ᵛ◌, origin}
@@ -24,7 +24,7 @@ record Spread (ys : List Pt) (ks : List ℤ) (xs : List Pt) : Type 0 where
   sum : comb js ys ≡ comb ks xs
 
 -- each weight is added at the point's place among ys
-spread : (ys : List Pt) (ks : List ℤ) (xs : List Pt) → length ks ≡ length xs → Nonneg ks → All (Has ys) xs → Spread ys ks xs
+spread : (ys : List Pt) (ks : List ℤ) (xs : List Pt) → length ks ≡ length xs → Nonneg ks → AllByRecursion (Has ys) xs → Spread ys ks xs
 spread ys [] xs e n h = record { js = zeros ys; one_each = length_zeros ys; nonneg = nonneg_zeros ys; whole = total_zeros ys; sum = comb_zeros ys }
 spread ys (k ∷ ks) [] e n h = absurd (omega arith)
 spread ys (k ∷ ks) (x ∷ xs) e n h = more (spread ys ks xs (omega arith) n.1 h.1)
@@ -41,7 +41,7 @@ spread ys (k ∷ ks) (x ∷ xs) e n h = more (spread ys ks xs (omega arith) n.1 
         }
 
 -- a mean of points that are all among ys
-pub mean-among : {ys xs : List Pt} {x : Frac} → All (Has ys) xs → Mean xs x → Mean ys x
+pub mean-among : {ys xs : List Pt} {x : Frac} → AllByRecursion (Has ys) xs → Mean xs x → Mean ys x
 mean-among {ys} {xs} h m =
     let g = mean→hull m in let s = spread ys g.ks xs g.one_each g.nonneg h in
     hull→mean (record { ks = s.js; one_each = s.one_each; nonneg = s.nonneg; some = rw s.whole g.some; positive = g.positive; value = rw (s.whole, s.sum) g.value })
@@ -80,14 +80,14 @@ difference_of_means {A} {B} {x} {y} z m n h e =
 record Sides (A B ys : List Pt) : Type 0 where
   tops : List Pt
   bottoms : List Pt
-  in_a : All (Has A) tops
-  in_b : All (Has B) bottoms
+  in_a : AllByRecursion (Has A) tops
+  in_b : AllByRecursion (Has B) bottoms
   many_a : length ys ≡ length tops
   many_b : length ys ≡ length bottoms
   sum : (ks : List ℤ) → comb ks ys ≡ comb ks tops -ᵛ comb ks bottoms
 
 -- they are gathered point by point
-sides : {A B : List Pt} (ys : List Pt) → All (Between A B) ys → Sides A B ys
+sides : {A B : List Pt} (ys : List Pt) → AllByRecursion (Between A B) ys → Sides A B ys
 sides [] h = record { tops = []; bottoms = []; in_a = tt; in_b = tt; many_a = refl; many_b = refl; sum = elim [ [] ↦ refl | k ∷ ks ↦ refl ] }
 sides {A} {B} (y ∷ ys) h = more (sides ys h.1)
   where
@@ -101,7 +101,7 @@ sides {A} {B} (y ∷ ys) h = more (sides ys h.1)
             solve_v (pts (h.0.a ∷ h.0.b ∷ comb ks s.tops ∷ comb ks s.bottoms ∷ []) (k ∷ [])) (var 12 ⊗ᵛ (pt 0 ⊖ᵛ pt 1) ⊕ᵛ (pt 2 ⊖ᵛ pt 3)) ((var 12 ⊗ᵛ pt 0 ⊕ᵛ pt 2) ⊖ᵛ (var 12 ⊗ᵛ pt 1 ⊕ᵛ pt 3)) refl refl refl
 
 -- a mean of differences of corners
-pub difference_of_corners : (A B : List Pt) {ys : List Pt} {x : Frac} → All (Between A B) ys → Mean ys x → Difference A B x
+pub difference_of_corners : (A B : List Pt) {ys : List Pt} {x : Frac} → AllByRecursion (Between A B) ys → Mean ys x → Difference A B x
 difference_of_corners A B {ys} {x} h m =
     let g = mean→hull m in let s = sides ys h in let ks = g.ks in let N = pt 0 in let T = var 9 in let d = var 10 in
     difference_of_means {x = weighed ks s.tops} {y = weighed ks s.bottoms} x (mean-among s.in_a (mean-weighed ks (g.one_each ∙ s.many_a) g.nonneg g.some)) (mean-among s.in_b (mean-weighed ks (g.one_each ∙ s.many_b) g.nonneg g.some)) m.positive

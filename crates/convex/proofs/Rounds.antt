@@ -1,6 +1,6 @@
 -- One round: from the carrier S of the nearest point so far, and the corners a and b that lie farthest on its near side.
 use Rattle.std.proofs.Common.{◌≤◌, ◌⊎◌, List, [], ◌∷◌, ◌++◌, length, ◌*ℤ◌, refl, inl, inr}
-use Rattle.std.specs.List.{AllByRecursion as All}
+use Rattle.std.specs.List.{AllByRecursion}
 use Rattle.std.proofs.ByRecursion.{All-weaker, all-has, All-push}
 use Rattle.std.proofs.lemmas.Int.{by_lt_z}
 use Rattle.integers.specs.Points.{Pt, ◌-ᵛ◌, dot, origin}
@@ -17,10 +17,10 @@ pub record Next (A B S : List Pt) (w : Pt) : Type 0 where
   pub fits : length S ≤ 3
   pub independent : Independent (S ++ w ∷ [])
   pub shorter : (T : List Pt) → Carries T (S ++ w ∷ []) → Shorter (footing T) (footing S)
-  pub between : (T : List Pt) → Carries T (S ++ w ∷ []) → All (Between A B) T
+  pub between : (T : List Pt) → Carries T (S ++ w ∷ []) → AllByRecursion (Between A B) T
 
 -- the round stops at the nearest difference, or goes on
-pub round : (A B S : List Pt) {ys : List Pt} (a b : Pt) → Carries S ys → All (Between A B) S → Farthest A (origin -ᵛ foot S) a → Farthest B (foot S) b → Nearest A B (footing S) ⊎ Next A B S (a -ᵛ b)
+pub round : (A B S : List Pt) {ys : List Pt} (a b : Pt) → Carries S ys → AllByRecursion (Between A B) S → Farthest A (origin -ᵛ foot S) a → Farthest B (foot S) b → Nearest A B (footing S) ⊎ Next A B S (a -ᵛ b)
 round A B S a b c h l r =
     let D = foot S in let w = a -ᵛ b in
     by_lt_z (extent S *ℤ dot D w) (dot D D)

@@ -1,7 +1,7 @@
 -- The search: from two corners, round by round, to the nearest difference. It ends, since each round lessens the measure.
 use Rattle.std.proofs.Common.{ℕ, zero, suc, ◌<◌, ◌⊎◌, List, [], ◌∷◌, ◌++◌, pos, ◌≤ℤ◌, refl, inl, inr, arith}
 use lib.Signed.{≤ℤ_refl}
-use Rattle.std.specs.List.{AllByRecursion as All}
+use Rattle.std.specs.List.{AllByRecursion}
 use Rattle.std.proofs.ByRecursion.{All-weaker, all-has, has_get_or, has_append_right}
 use Rattle.std.proofs.lemmas.Int.{ints, by_lt_z}
 use Rattle.integers.specs.Points.{Pt, ◌-ᵛ◌, dot, origin}
@@ -28,15 +28,15 @@ farthest d p (r ∷ ps) = more (farthest d r ps)
         (λ l. (q, record { one = has_append_right (p ∷ []) (r ∷ ps) q h.one; most = (l, h.most) }))
 
 -- ---- where the simplices of differences of corners have a bounded extent, the search ends
-module _ (M : ℕ) (a b : Pt) (A B : List Pt) (bounded : (S : List Pt) → All (Between (a ∷ A) (b ∷ B)) S → extent S ≤ℤ pos M) where
+module _ (M : ℕ) (a b : Pt) (A B : List Pt) (bounded : (S : List Pt) → AllByRecursion (Between (a ∷ A) (b ∷ B)) S → extent S ≤ℤ pos M) where
   -- from the simplex S on, in less than `most` rounds
-  search : (most : ℕ) (S : List Pt) {ys : List Pt} → Carries S ys → All (Between (a ∷ A) (b ∷ B)) S → measure M (footing S) < most → (x : Frac) × Nearest (a ∷ A) (b ∷ B) x
+  search : (most : ℕ) (S : List Pt) {ys : List Pt} → Carries S ys → AllByRecursion (Between (a ∷ A) (b ∷ B)) S → measure M (footing S) < most → (x : Frac) × Nearest (a ∷ A) (b ∷ B) x
   search zero S c h l = absurd (omega arith)
   search (suc f) S c h l =
       let (p, i) = farthest (origin -ᵛ foot S) a A in let (q, j) = farthest (foot S) b B in
       turn (p -ᵛ q) (round (a ∷ A) (b ∷ B) S p q c h i j) (λ T t k m. search f T t k m)
     where
-      turn : (w : Pt) → Nearest (a ∷ A) (b ∷ B) (footing S) ⊎ Next (a ∷ A) (b ∷ B) S w → ((T : List Pt) → Carries T (S ++ w ∷ []) → All (Between (a ∷ A) (b ∷ B)) T → measure M (footing T) < f → (x : Frac) × Nearest (a ∷ A) (b ∷ B) x) → (x : Frac) × Nearest (a ∷ A) (b ∷ B) x
+      turn : (w : Pt) → Nearest (a ∷ A) (b ∷ B) (footing S) ⊎ Next (a ∷ A) (b ∷ B) S w → ((T : List Pt) → Carries T (S ++ w ∷ []) → AllByRecursion (Between (a ∷ A) (b ∷ B)) T → measure M (footing T) < f → (x : Frac) × Nearest (a ∷ A) (b ∷ B) x) → (x : Frac) × Nearest (a ∷ A) (b ∷ B) x
       turn w (inl n) on = (footing S, n)
       turn w (inr n) on =
           let (T, t) = carrier (S ++ w ∷ []) n.independent in let k = n.between T t in
@@ -53,7 +53,7 @@ module _ (M : ℕ) (a b : Pt) (A B : List Pt) (bounded : (S : List Pt) → All (
   search_ends = let S = (a -ᵛ b) ∷ [] in search (suc (measure M (footing S))) S (carries_itself S (record { some = omega arith; few = omega arith; apart = omega (arith, ints) }) (omega (arith, ints), tt)) (first, tt) (omega arith)
 
 -- two bodies within ±14 have a nearest difference
-pub nearest_exists : (a b : Pt) (A B : List Pt) → All (Near 14) (a ∷ A) → All (Near 14) (b ∷ B) → (x : Frac) × Nearest (a ∷ A) (b ∷ B) x
+pub nearest_exists : (a b : Pt) (A B : List Pt) → AllByRecursion (Near 14) (a ∷ A) → AllByRecursion (Near 14) (b ∷ B) → (x : Frac) × Nearest (a ∷ A) (b ∷ B) x
 nearest_exists a b A B h k = search_ends 66382848 a b A B (λ S s. extent≤ S (All-weaker _ _ near S s))
   where
     near : (y : Pt) → Between (a ∷ A) (b ∷ B) y → Near 28 y

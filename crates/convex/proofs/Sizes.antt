@@ -1,6 +1,6 @@
 -- How large the numbers of a simplex get whose points lie within ±28: differences of corners that lie within ±14.
 use Rattle.std.proofs.Common.{◌≡◌, ℕ, ◌≤◌, T, leb, List, [], ◌∷◌, ℤ, pos, ◌*ℤ◌, nat_abs, ◌≤ℤ◌, sym, refl, subst, arith, leb→le}
-use Rattle.std.specs.List.{ContainsAt as Has, AllByRecursion as All}
+use Rattle.std.specs.List.{ContainsAt as Has, AllByRecursion}
 use Rattle.std.proofs.ByRecursion.{All-weaker, all-has, all_has_itself}
 use Rattle.std.proofs.lemmas.Int.{ints}
 use Rattle.integers.specs.Points.{Pt, ◌+ᵛ◌, ◌-ᵛ◌, ◌·ᵛ◌, dot, cross, det}
@@ -84,14 +84,14 @@ module _ (a b c : Pt) (ha : Near 28 a) (hb : Near 28 b) (hc : Near 28 c) where
     size_volume = sized four (volume_e P₀ P₁ P₂ P₃) 526848 tt
 
 -- ---- of the foot D / W
-pub near-foot : (S : List Pt) → All (Near 28) S → Near 619573248 (foot S)
+pub near-foot : (S : List Pt) → AllByRecursion (Near 28) S → Near 619573248 (foot S)
 near-foot [] h = (leb→le _ _ tt, leb→le _ _ tt, leb→le _ _ tt)
 near-foot (a ∷ []) h = wider 619573248 a (leb→le _ _ tt) h.0
 near-foot (a ∷ (b ∷ [])) h = sized_v (two a b h.0 h.1.0) (dot_e P₁ (P₁ ⊖ᵛ P₀) ⊗ᵛ P₀ ⊖ᵛ dot_e P₀ (P₁ ⊖ᵛ P₀) ⊗ᵛ P₁) 619573248 tt tt tt
 near-foot (a ∷ (b ∷ (c ∷ []))) h = sized_v (three a b c h.0 h.1.0 h.1.1.0) (det_e P₀ P₁ P₂ ⊗ᵛ normal_e P₀ P₁ P₂) 619573248 tt tt tt
 near-foot (a ∷ (b ∷ (c ∷ (d ∷ S)))) h = (leb→le _ _ tt, leb→le _ _ tt, leb→le _ _ tt)
 
-pub size_extent : (S : List Pt) → All (Near 28) S → nat_abs (extent S) ≤ 66382848
+pub size_extent : (S : List Pt) → AllByRecursion (Near 28) S → nat_abs (extent S) ≤ 66382848
 size_extent [] h = leb→le _ _ tt
 size_extent (a ∷ []) h = leb→le _ _ tt
 size_extent (a ∷ (b ∷ [])) h = sized (two a b h.0 h.1.0) (dot_e (P₁ ⊖ᵛ P₀) (P₁ ⊖ᵛ P₀)) 66382848 tt
@@ -99,13 +99,13 @@ size_extent (a ∷ (b ∷ (c ∷ []))) h = sized (three a b c h.0 h.1.0 h.1.1.0)
 size_extent (a ∷ (b ∷ (c ∷ (d ∷ [])))) h = let v = size_volume a b c h.0 h.1.0 h.1.1.0 d h.1.1.1.0 in omega arith
 size_extent (a ∷ (b ∷ (c ∷ (d ∷ (e ∷ S))))) h = leb→le _ _ tt
 
-pub extent≤ : (S : List Pt) → All (Near 28) S → extent S ≤ℤ pos 66382848
+pub extent≤ : (S : List Pt) → AllByRecursion (Near 28) S → extent S ≤ℤ pos 66382848
 extent≤ S h = at_most (extent S) (size_extent S h)
   where
     at_most : (x : ℤ) → nat_abs x ≤ 66382848 → x ≤ℤ pos 66382848
     at_most x h = omega (arith, ints)
 
-module _ (S : List Pt) (h : All (Near 28) S) where
+module _ (S : List Pt) (h : AllByRecursion (Near 28) S) where
   -- D-as-D
   pub size_square : nat_abs (dot (foot S) (foot S)) ≤ 1151613028911808512
   size_square = sized (point (foot S) (near-foot S h) []) (dot_e P₀ P₀) 1151613028911808512 tt
@@ -121,13 +121,13 @@ module _ (S : List Pt) (h : All (Near 28) S) where
 
 -- ---- of the gap D·y, for a point y of the simplex: the square of the foot is D·y / W
 -- of a triangle it is the square of the determinant
-triangle : (a b c : Pt) → Near 28 a → Near 28 b → Near 28 c → All (λ y. nat_abs (dot (foot (a ∷ b ∷ c ∷ [])) y) ≤ 17348050944) (a ∷ b ∷ c ∷ [])
+triangle : (a b c : Pt) → Near 28 a → Near 28 b → Near 28 c → AllByRecursion (λ y. nat_abs (dot (foot (a ∷ b ∷ c ∷ [])) y) ≤ 17348050944) (a ∷ b ∷ c ∷ [])
 triangle a b c ha hb hc =
     let ρ = pts (a ∷ b ∷ c ∷ []) [] in let δ = det_e P₀ P₁ P₂ in let D = δ ⊗ᵛ normal_e P₀ P₁ P₂ in
     let small : nat_abs (det a b c *ℤ det a b c) ≤ 17348050944 = sized (num (det a b c) (size_det a b c ha hb hc) []) (var 0 ⊗ var 0) 17348050944 tt in
     (size_by (solve ρ (dot_e D P₀) (δ ⊗ δ) refl) small, (size_by (solve ρ (dot_e D P₁) (δ ⊗ δ) refl) small, (size_by (solve ρ (dot_e D P₂) (δ ⊗ δ) refl) small, tt)))
 
-gaps : (S : List Pt) → All (Near 28) S → All (λ y. nat_abs (dot (foot S) y) ≤ 17348050944) S
+gaps : (S : List Pt) → AllByRecursion (Near 28) S → AllByRecursion (λ y. nat_abs (dot (foot S) y) ≤ 17348050944) S
 gaps [] h = tt
 gaps (a ∷ []) h = (sized (point a h.0 []) (dot_e P₀ P₀) 17348050944 tt, tt)
 gaps (a ∷ (b ∷ [])) h =
@@ -136,5 +136,5 @@ gaps (a ∷ (b ∷ [])) h =
 gaps (a ∷ (b ∷ (c ∷ []))) h = triangle a b c h.0 h.1.0 h.1.1.0
 gaps (a ∷ (b ∷ (c ∷ (d ∷ S)))) h = let ys = a ∷ b ∷ c ∷ d ∷ S in All-weaker (Has ys) _ (λ y _. size_by (solve (pts (y ∷ []) []) (dot_e origin_e P₀) (con (pos 0)) refl) (leb→le _ _ tt)) ys (all_has_itself ys)
 
-pub size_gap : (S : List Pt) (y : Pt) → All (Near 28) S → Has S y → nat_abs (dot (foot S) y) ≤ 17348050944
+pub size_gap : (S : List Pt) (y : Pt) → AllByRecursion (Near 28) S → Has S y → nat_abs (dot (foot S) y) ≤ 17348050944
 size_gap S y h i = all-has _ S y (gaps S h) i

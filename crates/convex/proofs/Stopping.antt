@@ -1,6 +1,6 @@
 -- The stopping law: a difference is the nearest exactly where no difference of corners lies on its near side.
 use Rattle.std.proofs.Common.{◌≡◌, ◌⊎◌, List, [], ◌∷◌, map, ℤ, pos, ◌+ℤ◌, ◌-ℤ◌, ◌*ℤ◌, neg_ℤ, ◌≤ℤ◌, ◌<ℤ◌, sym, refl, ◌∙◌, subst, inl, inr, arith}
-use Rattle.std.specs.List.{ContainsAt as Has, AllByRecursion as All}
+use Rattle.std.specs.List.{ContainsAt as Has, AllByRecursion}
 use Rattle.std.proofs.ByRecursion.{All-weaker, all_has_itself}
 use Rattle.std.proofs.lemmas.Int.{ints, by_lt_z}
 use Rattle.integers.specs.Points.{Pt, ◌-ᵛ◌, ◌·ᵛ◌, dot, origin}
@@ -19,7 +19,7 @@ use Rattle.convex.proofs.Progress.{mixed, mean-between, Nearer, nearer}
 
 -- ---- the test is enough
 -- a bound of each corner is one of the mean
-mean≥ : {ys : List Pt} (w : Weights ys) (E : Pt) (c : ℤ) → All (λ y. c ≤ℤ dot E y) ys → (pos (total w.each) *ℤ c) ≤ℤ dot E (sum_of w.each ys)
+mean≥ : {ys : List Pt} (w : Weights ys) (E : Pt) (c : ℤ) → AllByRecursion (λ y. c ≤ℤ dot E y) ys → (pos (total w.each) *ℤ c) ≤ℤ dot E (sum_of w.each ys)
 mean≥ {ys} w E c h = rw (← total_naturals w.each, ← comb_naturals w.each ys) (dot_comb≥ E c (map pos w.each) ys (length_naturals w.each ∙ w.one_each) (naturals_nonneg w.each) h)
 
 module _ (A B : List Pt) (D : Pt) (W : ℤ) (h : StoppingTest A B (D ÷ W)) where
@@ -36,7 +36,7 @@ module _ (A B : List Pt) (D : Pt) (W : ℤ) (h : StoppingTest A B (D ÷ W)) wher
           let D' = pt 0 in let w = var 9 in let dd = dot_e D' D' in
           prove≤ (pts (D ∷ a ∷ b ∷ []) (W ∷ [])) (dd ⊖ w ⊗ dot_e D' (pt 1)) (dot_e (neg w ⊗ᵛ D') (pt 2)) (le dd (w ⊗ dot_e D' (pt 1 ⊖ᵛ pt 2)) k ∷ []) refl
 
-      at_corner : (a : Pt) → All (λ b. dot D D ≤ℤ (W *ℤ dot D (a -ᵛ b))) B → (pos (total v.each) *ℤ dot D D +ℤ W *ℤ dot D (sum_of v.each B)) ≤ℤ dot ((pos (total v.each) *ℤ W) ·ᵛ D) a
+      at_corner : (a : Pt) → AllByRecursion (λ b. dot D D ≤ℤ (W *ℤ dot D (a -ᵛ b))) B → (pos (total v.each) *ℤ dot D D +ℤ W *ℤ dot D (sum_of v.each B)) ≤ℤ dot ((pos (total v.each) *ℤ W) ·ᵛ D) a
       at_corner a k =
           let D' = pt 0 in let w = var 9 in let t' = var 10 in let dd = dot_e D' D' in
           prove≤ (pts (D ∷ a ∷ sum_of v.each B ∷ []) (W ∷ pos (total v.each) ∷ [])) (t' ⊗ dd ⊕ w ⊗ dot_e D' (pt 2)) (dot_e ((t' ⊗ w) ⊗ᵛ D') (pt 1))
@@ -51,7 +51,7 @@ nearest_stops A B x h r = record {
 
 -- ---- by the corners that lie farthest on the near side
 -- farthest against D is least along D
-pub least_of_farthest : (ps : List Pt) (D p : Pt) → Farthest ps (origin -ᵛ D) p → All (λ x. dot D p ≤ℤ dot D x) ps
+pub least_of_farthest : (ps : List Pt) (D p : Pt) → Farthest ps (origin -ᵛ D) p → AllByRecursion (λ x. dot D p ≤ℤ dot D x) ps
 least_of_farthest ps D p h = All-weaker _ _ back ps h.most
   where
     back : (x : Pt) → dot (origin -ᵛ D) x ≤ℤ dot (origin -ᵛ D) p → dot D p ≤ℤ dot D x
@@ -68,7 +68,7 @@ supports A B x a b h l r k = All-weaker _ _ (λ p i. All-weaker _ _ (λ q j. eac
         (le (dot_e X X) (w ⊗ dot_e X (pt 1 ⊖ᵛ pt 2)) k ∷ nn w h ⊠ le (dot_e X (pt 1)) (dot_e X (pt 3)) i ∷ nn w h ⊠ le (dot_e X (pt 4)) (dot_e X (pt 2)) j ∷ []) refl
 
 -- a mean of differences of corners for which they pass is the nearest difference
-pub nearest_by_supports : (A B : List Pt) {ys : List Pt} (x : Frac) (a b : Pt) → All (Between A B) ys → Mean ys x → Farthest A (origin -ᵛ x.point) a → Farthest B x.point b → dot x.point x.point ≤ℤ (x.over *ℤ dot x.point (a -ᵛ b)) → Nearest A B x
+pub nearest_by_supports : (A B : List Pt) {ys : List Pt} (x : Frac) (a b : Pt) → AllByRecursion (Between A B) ys → Mean ys x → Farthest A (origin -ᵛ x.point) a → Farthest B x.point b → dot x.point x.point ≤ℤ (x.over *ℤ dot x.point (a -ᵛ b)) → Nearest A B x
 nearest_by_supports A B x a b h m l r k = nearest_stops A B x (supports A B x a b (<ℤ→≤ℤ m.positive) l r k) (difference_of_corners A B h m)
 
 -- where the bodies meet, all corners pass

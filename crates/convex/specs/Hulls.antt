@@ -1,6 +1,6 @@
 -- The shortest mean of one list of points, its farthest corners, and sums with weights of any sign.
 use Rattle.std.specs.Prelude.{◌≡◌, ℕ, zero, suc, ◌*◌, ◌/◌, List, [], ◌∷◌, ℤ, pos, ◌+ℤ◌, ◌≤ℤ◌, Ok, Err, Result, unsigned_abs}
-use Rattle.std.specs.List.{ContainsAt as Has, AllByRecursion as All}
+use Rattle.std.specs.List.{ContainsAt as Has, AllByRecursion}
 use Rattle.integers.specs.Points.{Pt, ◌+ᵛ◌, ◌-ᵛ◌, ◌·ᵛ◌, dot, origin}
 use Rattle.convex.specs.Fractions.{Frac, NoLonger}
 use Rattle.convex.specs.Means.{Mean}
@@ -21,7 +21,7 @@ pub record Between (A B : List Pt) (y : Pt) : Type 0 where
 -- p is one of ps, and none of them has a larger product with d
 pub record Farthest (ps : List Pt) (d p : Pt) : Type 0 where
   pub one : Has ps p
-  pub most : All (λ x. dot d x ≤ℤ dot d p) ps
+  pub most : AllByRecursion (λ x. dot d x ≤ℤ dot d p) ps
 
 -- the answer to the question for a farthest corner: one of the body's, by where it lies, or the slip by which the body refuses
 abbrev pub Found : {C E : Type 0} → (C → Pt) → Result (List Pt) E → Pt → Result C E → Type 0

@@ -1,6 +1,6 @@
 -- Weighted means of the corners of two bodies, and the one of their differences that is nearest to the origin. A body is the list of its corners.
 use Rattle.std.specs.Prelude.{◌≡◌, ℕ, ◌+◌, ◌<◌, ◌⊎◌, List, [], ◌∷◌, length, pos, ◌*ℤ◌, ◌≤ℤ◌, ◌<ℤ◌}
-use Rattle.std.specs.List.{AllByRecursion as All}
+use Rattle.std.specs.List.{AllByRecursion}
 use Rattle.integers.specs.Points.{Pt, ◌+ᵛ◌, ◌-ᵛ◌, ◌·ᵛ◌, dot, origin}
 use Rattle.convex.specs.Fractions.{Frac, ◌÷◌, Same, Longer, ◌less◌}
 
@@ -45,4 +45,4 @@ pub record Nearest (A B : List Pt) (x : Frac) : Type 0 where
 
 -- no difference of corners lies on the near side of the plane through x = D / W across D: D · D ≤ W D · (a − b)
 abbrev pub StoppingTest : List Pt → List Pt → Frac → Type 0
-StoppingTest A B x = All (λ a. All (λ b. dot x.point x.point ≤ℤ (x.over *ℤ dot x.point (a -ᵛ b))) B) A
+StoppingTest A B x = AllByRecursion (λ a. AllByRecursion (λ b. dot x.point x.point ≤ℤ (x.over *ℤ dot x.point (a -ᵛ b))) B) A

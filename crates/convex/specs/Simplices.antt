@@ -1,6 +1,6 @@
 -- The point nearest to the origin of the line, plane or space through one to four points, by weights of any sign.
 use Rattle.std.specs.Prelude.{◌≡◌, ◌≤◌, List, [], ◌∷◌, length, ℤ, pos, negsuc, ◌-ℤ◌, ◌*ℤ◌, neg_ℤ, ◌<ℤ◌, unsigned_abs}
-use Rattle.std.specs.List.{ContainsAt as Has, AllByRecursion as All}
+use Rattle.std.specs.List.{ContainsAt as Has, AllByRecursion}
 use Rattle.integers.specs.Points.{Pt, ◌+ᵛ◌, ◌-ᵛ◌, ◌·ᵛ◌, dot, cross, det, origin}
 use Rattle.convex.specs.Fractions.{Frac, ◌÷◌}
 use Rattle.convex.specs.Hulls.{comb, totalℤ, Shortest}
@@ -10,7 +10,7 @@ pub record Foot (ys : List Pt) (m : List ℤ) (x : Frac) : Type 0 where
   pub one_each : length m ≡ length ys
   pub sum : x.point ≡ comb m ys
   pub whole : x.over ≡ totalℤ m
-  pub level : All (λ y. x.over *ℤ dot x.point y ≡ dot x.point x.point) ys
+  pub level : AllByRecursion (λ y. x.over *ℤ dot x.point y ≡ dot x.point x.point) ys
 
 -- twice the area of the triangle, on its normal
 abbrev pub normal : Pt → Pt → Pt → Pt
@@ -65,7 +65,7 @@ pub record Independent (S : List Pt) : Type 0 where
 
 -- S is the part of ys whose foot is the shortest mean of ys: independent points, with positive weights
 pub record Carries (S ys : List Pt) : Type 0 where
-  pub among : All (Has ys) S
+  pub among : AllByRecursion (Has ys) S
   pub independent : Independent S
-  pub inside : All (λ k. pos 0 <ℤ k) (weights S)
+  pub inside : AllByRecursion (λ k. pos 0 <ℤ k) (weights S)
   pub shortest : Shortest ys (footing S)

@@ -3,7 +3,7 @@ use Rattle.std.proofs.Common.{◌≡◌, ℕ, zero, suc, ◌+◌, ◌-◌, ◌*�
 use native.Mathlib.Nat.{mul-sub, mul-div_left, eq_of_mul-eq-mul_right}
 use lib.IntN.{*ℤ-zero, *ℤ_comm}
 use lib.Signed.{quot_z}
-use Rattle.std.specs.List.{AllByRecursion as All}
+use Rattle.std.specs.List.{AllByRecursion}
 use Rattle.std.proofs.ByRecursion.{All-weaker}
 use Rattle.std.proofs.lemmas.Int.{ints}
 use Rattle.integers.specs.Divisors.{Divides, Greatest, Coprime, Reduced}
@@ -99,7 +99,7 @@ one_of (suc j) (suc (suc k)) e = absurd (omega arith)
 no_more : (k g : ℕ) → 0 < g → Divides (k * g) g → k ≡ 1
 no_more k g h (j, e) = one_of j k (eq_of_mul-eq-mul_right g h (j * k) 1 (mul_assoc j k g ∙ sym e ∙ sym (one-mul g)))
 
-lift : (k g : ℕ) (ms : List ℤ) → All (Divides k) (map nat_abs ms) → All (Divides (k * g)) (map nat_abs (map (λ m. pos g *ℤ m) ms))
+lift : (k g : ℕ) (ms : List ℤ) → AllByRecursion (Divides k) (map nat_abs ms) → AllByRecursion (Divides (k * g)) (map nat_abs (map (λ m. pos g *ℤ m) ms))
 lift k g [] h = tt
 lift k g (m ∷ ms) ((j, e), h) = ((j, abs_product (pos g) m ∙ ap (λ t. g * t) e ∙ mul_comm g (j * k) ∙ mul_assoc j k g), lift k g ms h)
 
@@ -109,7 +109,7 @@ reduced_by ns ms g h v e = record {
   factor = g;
   positive = h;
   scaled = e;
-  coprime = λ k a. no_more k g h (v.most (k * g) (subst (λ l. All (Divides (k * g)) (map nat_abs l)) (sym e) (lift k g ms a)));
+  coprime = λ k a. no_more k g h (v.most (k * g) (subst (λ l. AllByRecursion (Divides (k * g)) (map nat_abs l)) (sym e) (lift k g ms a)));
 }
 
 -- ---- numbers that come to 1 by some factors have no common divisor
@@ -123,7 +123,7 @@ signed_multiple : (k : ℕ) (n : ℤ) → Divides k (nat_abs n) → (j : ℤ) ×
 signed_multiple k (pos a) (j, e) = (pos j, ap pos (e ∙ mul_comm j k))
 signed_multiple k (negsuc a) (j, e) = (neg_ℤ (pos j), ap (λ t. neg_ℤ (pos t)) (e ∙ mul_comm j k) ∙ sym (*ℤ_negℤ (pos k) (pos j)))
 
-weighted_multiple : (k : ℕ) (cs ns : List ℤ) → All (Divides k) (map nat_abs ns) → (j : ℤ) × (weighted cs ns ≡ pos k *ℤ j)
+weighted_multiple : (k : ℕ) (cs ns : List ℤ) → AllByRecursion (Divides k) (map nat_abs ns) → (j : ℤ) × (weighted cs ns ≡ pos k *ℤ j)
 weighted_multiple k [] ns h = (pos 0, sym (*ℤ-zero (pos k)))
 weighted_multiple k (c ∷ cs) [] h = (pos 0, sym (*ℤ-zero (pos k)))
 weighted_multiple k (c ∷ cs) (n ∷ ns) (d, h) =

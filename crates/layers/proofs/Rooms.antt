@@ -1,7 +1,7 @@
 -- How the swell layer finds out whether a part has room: from its farthest corners along the six axes.
 use Rattle.std.proofs.Common.{◌≡◌, ℕ, ◌+◌, ◌≤◌, true, false, List, [], ◌∷◌, ℤ, pos, negsuc, ◌-ℤ◌, nat_abs, ◌≤ℤ◌, Ok, Err, Result, sym, refl, subst, arith}
 use lib.Signed.{lt_z}
-use Rattle.std.specs.List.{AllByRecursion as All}
+use Rattle.std.specs.List.{AllByRecursion}
 use Rattle.std.proofs.ByRecursion.{all-has, All-weaker}
 use Rattle.std.proofs.lemmas.Int.{ints}
 use Rattle.refusals.specs.declared.Refusal.{Refusal}
@@ -51,7 +51,7 @@ sixfold_roomy m p (a, b, c, d, e, f) = (omega (arith, ints), omega (arith, ints)
 
 -- a slip that is found along one axis is the slip of the whole
 pub blocked : (m n : ℕ) (d e : Pt) (M : Part) (s : Refusal) → d ≡ e → ((p : Pt) → Roomy m p → Inside m e p) → Cleared {X = Unit {0}} (Inside m d) n M (Err s) → Cleared {X = Unit {0}} (Roomy m) n M (Err s)
-blocked m n d e (Ok ps) s is h (k, f) = (k, λ l. f (subst (λ v. All (Inside m v) ps) (sym is) (All-weaker (Roomy m) (Inside m e) h ps l)))
+blocked m n d e (Ok ps) s is h (k, f) = (k, λ l. f (subst (λ v. AllByRecursion (Inside m v) ps) (sym is) (All-weaker (Roomy m) (Inside m e) h ps l)))
 blocked m n d e (Err t) s is h k = k
 
 refused : (s : Refusal) → ◌≡◌ {A = Result (Unit {0}) Refusal} (Ok tt) (Err s) → ⊥
@@ -67,7 +67,7 @@ cleared m n (Ok ps) (Err s) a b c d e f pa pb pc pd pe pf ha hb hc hd he hf = bl
 cleared m n (Ok ps) (Ok tt) a b c d e f pa pb pc pd pe pf ha hb hc hd he hf = together ps (rw pa at ha) (rw pb at hb) (rw pc at hc) (rw pd at hd) (rw pe at he) (rw pf at hf)
   where
     together : (ps : List Pt)
-        → All (Inside m (axis (pos 1) (pos 0) (pos 0))) ps → All (Inside m (axis (negsuc 0) (pos 0) (pos 0))) ps → All (Inside m (axis (pos 0) (pos 1) (pos 0))) ps
-        → All (Inside m (axis (pos 0) (negsuc 0) (pos 0))) ps → All (Inside m (axis (pos 0) (pos 0) (pos 1))) ps → All (Inside m (axis (pos 0) (pos 0) (negsuc 0))) ps → All (Roomy m) ps
+        → AllByRecursion (Inside m (axis (pos 1) (pos 0) (pos 0))) ps → AllByRecursion (Inside m (axis (negsuc 0) (pos 0) (pos 0))) ps → AllByRecursion (Inside m (axis (pos 0) (pos 1) (pos 0))) ps
+        → AllByRecursion (Inside m (axis (pos 0) (negsuc 0) (pos 0))) ps → AllByRecursion (Inside m (axis (pos 0) (pos 0) (pos 1))) ps → AllByRecursion (Inside m (axis (pos 0) (pos 0) (negsuc 0))) ps → AllByRecursion (Roomy m) ps
     together [] a b c d e f = tt
     together (p ∷ ps) a b c d e f = (sixfold_roomy m p (a.0, b.0, c.0, d.0, e.0, f.0), together ps a.1 b.1 c.1 d.1 e.1 f.1)

@@ -2,3 +2,4 @@ pub mod Layers
 pub mod Swells
 pub mod Mirrors
 pub mod SwellsLemmas
+pub mod Joins

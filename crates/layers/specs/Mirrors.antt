@@ -2,7 +2,7 @@
 use Rattle.std.specs.Prelude.{◌≡◌, ℕ, ◌<◌, List, [], ◌∷◌, map, length, ℤ, pos, ◌+ℤ◌, IfOk, Ok, Err, Option, refl}
 use Rattle.std.proofs.Common.{sym, ap, subst, ◌∙◌, arith}
 use Rattle.std.specs.Option.{option_map}
-use Rattle.std.specs.List.{AllByRecursion as All, slice_get}
+use Rattle.std.specs.List.{AllByRecursion, slice_get}
 use Rattle.std.proofs.ByRecursion.{All-map, All-weaker}
 use Rattle.std.proofs.lemmas.List.{length-map}
 use Rattle.std.proofs.lemmas.Int.{ints}
@@ -24,7 +24,7 @@ mirrored-some (Err s) h = tt
 flipped-near : (p : Pt) → Near 5 p → Near 5 (flipped p)
 flipped-near p (a, b, c) = (omega (arith, ints), b, c)
 
-pub mirrored-near : (m : Part) → IfOk m (λ ps. All (Near 5) ps) → IfOk (mirrored m) (λ ps. All (Near 5) ps)
+pub mirrored-near : (m : Part) → IfOk m (λ ps. AllByRecursion (Near 5) ps) → IfOk (mirrored m) (λ ps. AllByRecursion (Near 5) ps)
 mirrored-near (Ok ps) h = All-map (Near 5) flipped ps (All-weaker (Near 5) (λ p. Near 5 (flipped p)) flipped-near ps h)
 mirrored-near (Err s) h = tt
 

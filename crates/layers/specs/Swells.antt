@@ -1,6 +1,6 @@
 -- What the swell layer finds out of a part before it answers: whether every corner has room for it.
 use Rattle.std.specs.Prelude.{◌≡◌, ℕ, ◌+◌, ◌≤◌, List, pos, ◌-ℤ◌, ◌≤ℤ◌, Ok, Err, Result, unsigned_abs}
-use Rattle.std.specs.List.{AllByRecursion as All}
+use Rattle.std.specs.List.{AllByRecursion}
 use Rattle.refusals.specs.declared.Refusal.{Refusal}
 use Rattle.refusals.specs.Slips.{swelled_too_far}
 use Rattle.integers.specs.Points.{Pt, dot}
@@ -17,5 +17,5 @@ Roomy m p = (unsigned_abs p.x + m ≤ 5) × (unsigned_abs p.y + m ≤ 5) × (uns
 -- each corner has room in the sense of P, or the slip of part n: its own, and else that it is swelled too far
 abbrev pub Cleared : {X : Type 0} → (Pt → Type 0) → ℕ → Part → Result X Refusal → Type 0
 Cleared P n (Err s) r = r ≡ Err s
-Cleared P n (Ok ps) (Ok x) = All P ps
-Cleared P n (Ok ps) (Err t) = (t ≡ swelled_too_far n) × (All P ps → ⊥)
+Cleared P n (Ok ps) (Ok x) = AllByRecursion P ps
+Cleared P n (Ok ps) (Err t) = (t ≡ swelled_too_far n) × (AllByRecursion P ps → ⊥)

@@ -2,7 +2,7 @@
 use Rattle.std.specs.Prelude.{◌≡◌, ℕ, ◌+◌, ◌*◌, ◌/◌, ◌%◌, ◌<◌, ◌≤◌, Bool, true, false, cond, List, [], ◌∷◌, ◌++◌, map, length, ℤ, pos, ◌+ℤ◌, ◌-ℤ◌, neg_ℤ, ◌≤ℤ◌, IfOk, Some, None, Ok, Err, Decides, Option, Result, ◌≢◌, unsigned_abs, refl}
 use Rattle.std.proofs.Common.{sym, ap, subst, ◌∙◌, div-add-mod', arith, length-append}
 use Rattle.std.specs.Option.{option_map}
-use Rattle.std.specs.List.{ContainsAt as Has, flat_map, AllByRecursion as All, slice_get}
+use Rattle.std.specs.List.{ContainsAt as Has, flat_map, AllByRecursion, slice_get}
 use Rattle.std.proofs.ByRecursion.{All-map, All-weaker, all-has, All-append}
 use Rattle.std.proofs.lemmas.Int.{ints}
 use Rattle.std.proofs.lemmas.Bool.{cond-true, cond-false, cond_both}
@@ -29,18 +29,18 @@ use Rattle.layers.specs.Layers.{cube, widened, swelled}
 use Rattle.layers.specs.Swells.{Roomy, Cleared}
 
 -- ---- whether it fits
-roomy-near : (m : ℕ) (p : Pt) → Roomy m p → All (Near 5) (widened m p)
+roomy-near : (m : ℕ) (p : Pt) → Roomy m p → AllByRecursion (Near 5) (widened m p)
 roomy-near m p (a, b, c) = All-map (Near 5) (vertex (p -ᵛ cube m) (p +ᵛ cube m)) octants (every octants)
   where
     reach : (x : ℤ) (s : Side) → unsigned_abs x + m ≤ 5 → unsigned_abs (taken s (x -ℤ pos m) (x +ℤ pos m)) ≤ 5
     reach x Low h = omega (arith, ints)
     reach x High h = omega (arith, ints)
 
-    every : (os : List Octant) → All (λ o. Near 5 (vertex (p -ᵛ cube m) (p +ᵛ cube m) o)) os
+    every : (os : List Octant) → AllByRecursion (λ o. Near 5 (vertex (p -ᵛ cube m) (p +ᵛ cube m) o)) os
     every [] = tt
     every (o ∷ os) = ((reach p.x o.x a, reach p.y o.y b, reach p.z o.z c), every os)
 
-near-roomy : (m : ℕ) (p : Pt) → All (Near 5) (widened m p) → Roomy m p
+near-roomy : (m : ℕ) (p : Pt) → AllByRecursion (Near 5) (widened m p) → Roomy m p
 near-roomy m p h =
     let low = h.0 in let high = h.1.1.1.1.1.1.1.0 in
     (back p.x low.0 high.0, back p.y low.1 high.1, back p.z low.2 high.2)
@@ -48,31 +48,31 @@ near-roomy m p h =
     back : (x : ℤ) → unsigned_abs (x -ℤ pos m) ≤ 5 → unsigned_abs (x +ℤ pos m) ≤ 5 → unsigned_abs x + m ≤ 5
     back x k l = omega (arith, ints)
 
-all-parts : {X Y : Type 0} (P : Y → Type 0) (f : X → List Y) (xs : List X) → All P (flat_map f xs) → All (λ x. All P (f x)) xs
+all-parts : {X Y : Type 0} (P : Y → Type 0) (f : X → List Y) (xs : List X) → AllByRecursion P (flat_map f xs) → AllByRecursion (λ x. AllByRecursion P (f x)) xs
 all-parts P f [] h = tt
 all-parts P f (x ∷ xs) h = (all_front P (f x) (flat_map f xs) h, all-parts P f xs (all_back P (f x) (flat_map f xs) h))
   where
-    all_front : {Y : Type 0} (P : Y → Type 0) (xs ys : List Y) → All P (xs ++ ys) → All P xs
+    all_front : {Y : Type 0} (P : Y → Type 0) (xs ys : List Y) → AllByRecursion P (xs ++ ys) → AllByRecursion P xs
     all_front P [] ys h = tt
     all_front P (x ∷ xs) ys h = (h.0, all_front P xs ys h.1)
 
-    all_back : {Y : Type 0} (P : Y → Type 0) (xs ys : List Y) → All P (xs ++ ys) → All P ys
+    all_back : {Y : Type 0} (P : Y → Type 0) (xs ys : List Y) → AllByRecursion P (xs ++ ys) → AllByRecursion P ys
     all_back P [] ys h = h
     all_back P (x ∷ xs) ys h = all_back P xs ys h.1
 
 -- the widened corners stay within ±5 exactly where each corner has room
-fits-roomy : (m : ℕ) (ps : List Pt) → Decides (are_near 5 (flat_map (widened m) ps)) (All (Roomy m) ps)
+fits-roomy : (m : ℕ) (ps : List Pt) → Decides (are_near 5 (flat_map (widened m) ps)) (AllByRecursion (Roomy m) ps)
 fits-roomy m ps =
     Decides-like (are_near 5 (flat_map (widened m) ps))
-    (λ h. All-weaker (λ p. All (Near 5) (widened m p)) (Roomy m) (near-roomy m) ps (all-parts (Near 5) (widened m) ps h))
-    (λ h. all_joined (Near 5) (widened m) ps (All-weaker (Roomy m) (λ p. All (Near 5) (widened m p)) (roomy-near m) ps h))
+    (λ h. All-weaker (λ p. AllByRecursion (Near 5) (widened m p)) (Roomy m) (near-roomy m) ps (all-parts (Near 5) (widened m) ps h))
+    (λ h. all_joined (Near 5) (widened m) ps (All-weaker (Roomy m) (λ p. AllByRecursion (Near 5) (widened m p)) (roomy-near m) ps h))
     (decides_all-near 5 (flat_map (widened m) ps))
 
 -- what a swelled part is where each corner has room, and where one has not
-swelled-fits : (m n : ℕ) (ps : List Pt) → All (Roomy m) ps → swelled m n (Ok ps) ≡ Ok (flat_map (widened m) ps)
+swelled-fits : (m n : ℕ) (ps : List Pt) → AllByRecursion (Roomy m) ps → swelled m n (Ok ps) ≡ Ok (flat_map (widened m) ps)
 swelled-fits m n ps h = cond-true (are_near 5 (flat_map (widened m) ps)) _ _ ((fits-roomy m ps).1 h)
 
-swelled_not : (m n : ℕ) (ps : List Pt) → (All (Roomy m) ps → ⊥) → swelled m n (Ok ps) ≡ Err (swelled_too_far n)
+swelled_not : (m n : ℕ) (ps : List Pt) → (AllByRecursion (Roomy m) ps → ⊥) → swelled m n (Ok ps) ≡ Err (swelled_too_far n)
 swelled_not m n ps h = cond-false (are_near 5 (flat_map (widened m) ps)) _ _ (never (are_near 5 (flat_map (widened m) ps)) (λ e. h ((fits-roomy m ps).0 e)))
   where
     never : (b : Bool) → (b ≢ true) → b ≡ false
@@ -85,8 +85,8 @@ swelled-some m n (Ok []) h = absurd (omega arith)
 swelled-some m n (Ok (p ∷ ps)) h = cond_both (are_near 5 (flat_map (widened m) (p ∷ ps))) _ _ (λ v. IfOk v (λ ps. 0 < length ps)) (λ e. omega arith) (λ e. tt)
 swelled-some m n (Err s) h = tt
 
-pub swelled-near : (m n : ℕ) (M : Part) → IfOk (swelled m n M) (λ ps. All (Near 5) ps)
-swelled-near m n (Ok ps) = cond_both (are_near 5 (flat_map (widened m) ps)) _ _ (λ v. IfOk v (λ ps. All (Near 5) ps)) (λ e. (decides_all-near 5 (flat_map (widened m) ps)).0 e) (λ e. tt)
+pub swelled-near : (m n : ℕ) (M : Part) → IfOk (swelled m n M) (λ ps. AllByRecursion (Near 5) ps)
+swelled-near m n (Ok ps) = cond_both (are_near 5 (flat_map (widened m) ps)) _ _ (λ v. IfOk v (λ ps. AllByRecursion (Near 5) ps)) (λ e. (decides_all-near 5 (flat_map (widened m) ps)).0 e) (λ e. tt)
 swelled-near m n (Err s) = tt
 
 -- ---- farthest
@@ -112,7 +112,7 @@ widened-farthest : (m : ℕ) (d p : Pt) (ps : List Pt) → Farthest ps d p → F
 widened-farthest m d p ps h = record {
   one = has_joined (widened m) ps p _ h.one (box_has (p -ᵛ cube m) (p +ᵛ cube m) (towards d));
   most = all_joined (λ x. dot d x ≤ℤ dot d (vertex (p -ᵛ cube m) (p +ᵛ cube m) (towards d))) (widened m) ps
-      (All-weaker (λ x. dot d x ≤ℤ dot d p) (λ x. All (λ y. dot d y ≤ℤ dot d (vertex (p -ᵛ cube m) (p +ᵛ cube m) (towards d))) (widened m x))
+      (All-weaker (λ x. dot d x ≤ℤ dot d p) (λ x. AllByRecursion (λ y. dot d y ≤ℤ dot d (vertex (p -ᵛ cube m) (p +ᵛ cube m) (towards d))) (widened m x))
       (λ x l. All-weaker (λ y. dot d y ≤ℤ dot d (vertex (x -ᵛ cube m) (x +ᵛ cube m) (towards d))) (λ y. dot d y ≤ℤ dot d (vertex (p -ᵛ cube m) (p +ᵛ cube m) (towards d)))
       (λ y k. ≤ℤ_trans k (plus≤ _ (moved_by m d x) (moved_by m d p) l)) (widened m x) (box-farthest d (x -ᵛ cube m) (x +ᵛ cube m) (under m x)))
       ps h.most);

@@ -1,6 +1,9 @@
 // The join layer: one book's parts up to a number, and after them another book's.
+ghost use Rattle.std.specs.Prelude.{◌<◌, length};
+ghost use Rattle.std.specs.List.{AllByRecursion};
+ghost use Rattle.integers.specs.Space.{Near};
 ghost use Rattle.layers.specs.Layers.{joined_at};
-ghost use Rattle.std.proofs.Common.{rules};
+ghost use Rattle.layers.specs.Joins.{joined_keeps};
 
 use exact::direction::Direction;
 use parts::book::{Meaning, PartBook};
@@ -18,9 +21,9 @@ pub struct Join<B, C> {
 impl<B: Meaning, C: Meaning> Meaning for Join<B, C> {
     ghost meaning = { λ j n. joined_at j.last (B.Meaning.meaning j.first) (C.Meaning.meaning j.second) n };
 
-    ghost some = { Prim.search rules };
+    ghost some = { λ j. joined_keeps (λ ps. 0 < length ps) j.last (B.Meaning.meaning j.first) (C.Meaning.meaning j.second) (B.Meaning.some j.first) (C.Meaning.some j.second) };
 
-    ghost near = { Prim.search rules };
+    ghost near = { λ j. joined_keeps (λ ps. AllByRecursion (Near 5) ps) j.last (B.Meaning.meaning j.first) (C.Meaning.meaning j.second) (B.Meaning.near j.first) (C.Meaning.near j.second) };
 }
 
 impl<B: PartBook, C: PartBook> PartBook for Join<B, C> {

@@ -1,7 +1,7 @@
 -- The carrier of a simplex, from those of its faces.
 use Rattle.std.proofs.Common.{◌≡◌, ℕ, zero, suc, ◌<◌, true, false, ◌⊎◌, List, [], ◌∷◌, length, get_or, ℤ, pos, ◌*ℤ◌, ◌≤ℤ◌, ◌<ℤ◌, sym, refl, ap, ◌∙◌, subst, subst₂, inl, inr, arith, w64, SFits, to_z, of_z}
 use lib.Signed.{le_z, lt_z, ≤ℤ_refl}
-use Rattle.std.specs.List.{ContainsAt as Has, AllByRecursion as All}
+use Rattle.std.specs.List.{ContainsAt as Has, AllByRecursion}
 use Rattle.std.proofs.ByRecursion.{All-weaker, all-has, all_has_itself}
 use Rattle.std.proofs.lemmas.Int.{ints, to_z-of_z}
 use Rattle.integers.specs.Points.{Pt, dot}
@@ -34,7 +34,7 @@ pub least : {vs : List Pair} {r : Carrier} → Carried vs r → (y : Frac) → M
 least c y m = subst (λ x. NoLonger x y) (sym c.sound.is) (c.carries.shortest.least y m)
 
 -- positive weights: all of the pairs
-pub whole : (r : Carrier) → Sound r → All (λ k. pos 0 <ℤ k) (weights (points r.simplex)) → Carried (pairs r.simplex) r
+pub whole : (r : Carrier) → Sound r → AllByRecursion (λ k. pos 0 <ℤ k) (weights (points r.simplex)) → Carried (pairs r.simplex) r
 whole r s k = record { sound = s; among = all_has_itself (pairs r.simplex); carries = carries_itself (points r.simplex) s.independent k }
 
 -- the weight of the pair at k
@@ -45,11 +45,11 @@ weight vs k = get_or (weights (betweens vs)) k (pos 0)
 -- r is the best of the first n faces of vs
 pub record Solved (vs : List Pair) (n : ℕ) (r : Carrier) : Type 0 where
   pub sound : Sound r
-  pub among : All (Has vs) (pairs r.simplex)
+  pub among : AllByRecursion (Has vs) (pairs r.simplex)
   pub best : Best (betweens vs) n (points r.simplex)
 
 module _ (vs : List Pair) (n : ℕ) (r : Carrier) (c : Carried (without n vs) r) where
-  among-all : All (Has vs) (pairs r.simplex)
+  among-all : AllByRecursion (Has vs) (pairs r.simplex)
   among-all = All-weaker _ _ (λ x l. all-has (Has vs) (without n vs) x (all_without (Has vs) n vs (all_has_itself vs)) l) (pairs r.simplex) c.among
 
   carries_face : Carries (points r.simplex) (without n (betweens vs))
@@ -71,7 +71,7 @@ solved_next vs n b r h c = which c.from
     best_of s from = carriers.best_next (betweens vs) n (points b.simplex) (points r.simplex) h.best from (subst₂ NoLonger s.is h.sound.is c.older) (λ o y m. subst (λ x. NoLonger x y) s.is (c.newer o y (subst (λ t. Mean t y) (sym (betweens-without n vs)) m)))
 
     which : (r ≡ b) ⊎ Carried (without n vs) r → Solved vs (suc n) r
-    which (inl e) = let s : Sound r = subst (λ t. Sound t) (sym e) h.sound in record { sound = s; among = subst (λ t. All (Has vs) (pairs t.simplex)) (sym e) h.among; best = best_of s (inl (ap (λ t. points t.simplex) e)) }
+    which (inl e) = let s : Sound r = subst (λ t. Sound t) (sym e) h.sound in record { sound = s; among = subst (λ t. AllByRecursion (Has vs) (pairs t.simplex)) (sym e) h.among; best = best_of s (inl (ap (λ t. points t.simplex) e)) }
     which (inr f) = record { sound = f.sound; among = among-all vs n r f; best = best_of f.sound (inr (carries_face vs n r f)) }
 
 -- all of them

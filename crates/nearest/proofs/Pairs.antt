@@ -1,6 +1,6 @@
 -- How large what is computed from pairs of corners gets.
 use Rattle.std.proofs.Common.{◌≡◌, ℕ, zero, suc, ◌≤◌, List, [], ◌∷◌, length, get_or, ℤ, pos, negsuc, ◌*ℤ◌, neg_ℤ, nat_abs, sym, refl, ap, arith, leb→le, w64, to_z, of_z}
-use Rattle.std.specs.List.{ContainsAt as Has, AllByRecursion as All}
+use Rattle.std.specs.List.{ContainsAt as Has, AllByRecursion}
 use Rattle.std.proofs.ByRecursion.{all-has}
 use Rattle.integers.specs.Points.{Pt, ◌+ᵛ◌, ◌-ᵛ◌, ◌·ᵛ◌, dot, cross, det}
 use Rattle.integers.specs.Space.{Near}
@@ -25,7 +25,7 @@ length-betweens (v ∷ vs) = omega (arith, length-betweens vs)
 pub near-between : (v : Pair) → Near 28 (between v)
 near-between v = sizes.near-between (spot v.first) (spot v.second) v.first.near v.second.near
 
-pub all_near : (vs : List Pair) → All (Near 28) (betweens vs)
+pub all_near : (vs : List Pair) → AllByRecursion (Near 28) (betweens vs)
 all_near [] = tt
 all_near (v ∷ vs) = (near-between v, all_near vs)
 
@@ -76,7 +76,7 @@ size_sign (pos n) = leb→le _ _ tt
 size_sign (negsuc n) = leb→le _ _ tt
 
 -- each weight
-size_weights : (S : List Pt) → All (Near 28) S → All (λ k. nat_abs k ≤ 22127616) (weights S)
+size_weights : (S : List Pt) → AllByRecursion (Near 28) S → AllByRecursion (λ k. nat_abs k ≤ 22127616) (weights S)
 size_weights [] h = tt
 size_weights (a ∷ []) h = (leb→le _ _ tt, tt)
 size_weights (a ∷ (b ∷ [])) h = let ρ = point a h.0 (point b h.1.0 []) in (sized ρ (dot_e P₁ (P₁ ⊖ᵛ P₀)) 22127616 tt, (sized ρ (neg (dot_e P₀ (P₁ ⊖ᵛ P₀))) 22127616 tt, tt))
@@ -94,7 +94,7 @@ size_weights (a ∷ (b ∷ (c ∷ (d ∷ [])))) h =
 size_weights (a ∷ (b ∷ (c ∷ (d ∷ (e ∷ S))))) h = tt
 
 -- so each is kept as it is
-size_at : (ks : List ℤ) (i : ℕ) → All (λ k. nat_abs k ≤ 22127616) ks → nat_abs (get_or ks i (pos 0)) ≤ 22127616
+size_at : (ks : List ℤ) (i : ℕ) → AllByRecursion (λ k. nat_abs k ≤ 22127616) ks → nat_abs (get_or ks i (pos 0)) ≤ 22127616
 size_at [] i h = leb→le _ _ tt
 size_at (k ∷ ks) zero h = h.0
 size_at (k ∷ ks) (suc i) h = size_at ks i h.1

@@ -2,7 +2,7 @@
 use Rattle.std.proofs.Common.{◌≡◌, ℕ, ◌-◌, ◌<◌, ◌≤◌, T, List, [], ◌∷◌, length, get_or, ℤ, pos, negsuc, ◌*ℤ◌, nat_abs, ◌≤ℤ◌, ◌<ℤ◌, sym, refl, ap, ◌∙◌, subst, ap₂, zero-le, mul-le-mul_right, one-mul, arith, w64, Fits, to_z, of_z}
 use native.Mathlib.Bridge.{le_prop}
 use lib.Signed.{non_neg}
-use Rattle.std.specs.List.{ContainsAt as Has, AllByRecursion as All}
+use Rattle.std.specs.List.{ContainsAt as Has, AllByRecursion}
 use Rattle.std.proofs.lemmas.Int.{ints}
 use Rattle.integers.specs.Points.{Pt, ◌·ᵛ◌}
 use Rattle.integers.specs.Space.{Near}
@@ -69,12 +69,12 @@ listed-weights [] (k ∷ ks) e = absurd (omega arith)
 listed-weights (v ∷ vs) [] e = absurd (omega arith)
 listed-weights (v ∷ vs) (k ∷ ks) e = ap (λ t. k ∷ t) (listed-weights vs ks (omega arith))
 
-listed-corners : (ps qs : List Pt) (vs : List Pair) (ks : List ℤ) → All (CornersOf ps qs) vs → All (λ v. Has ps (spot v.first) × Has qs (spot v.second)) (listed vs ks)
+listed-corners : (ps qs : List Pt) (vs : List Pair) (ks : List ℤ) → AllByRecursion (CornersOf ps qs) vs → AllByRecursion (λ v. Has ps (spot v.first) × Has qs (spot v.second)) (listed vs ks)
 listed-corners ps qs [] ks h = tt
 listed-corners ps qs (v ∷ vs) [] h = tt
 listed-corners ps qs (v ∷ vs) (k ∷ ks) h = ((h.0.first, h.0.second), listed-corners ps qs vs ks h.1)
 
-listed-weighty : (vs : List Pair) (ks : List ℤ) → All (λ k. pos 0 <ℤ k) ks → All (λ v. pos 0 <ℤ v.weight) (listed vs ks)
+listed-weighty : (vs : List Pair) (ks : List ℤ) → AllByRecursion (λ k. pos 0 <ℤ k) ks → AllByRecursion (λ v. pos 0 <ℤ v.weight) (listed vs ks)
 listed-weighty [] ks h = tt
 listed-weighty (v ∷ vs) [] h = tt
 listed-weighty (v ∷ vs) (k ∷ ks) h = (h.0, listed-weighty vs ks h.1)

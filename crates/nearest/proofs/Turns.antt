@@ -1,6 +1,6 @@
 -- One turn of the search.
 use Rattle.std.proofs.Common.{◌≡◌, ◌<◌, ◌≤◌, List, [], ◌∷◌, ◌++◌, length, pos, negsuc, ◌*ℤ◌, ◌≤ℤ◌, ◌<ℤ◌, sym, refl, ap, subst, subst₂, arith, leb→le}
-use Rattle.std.specs.List.{AllByRecursion as All}
+use Rattle.std.specs.List.{AllByRecursion}
 use Rattle.std.proofs.ByRecursion.{All-weaker, all-has, All-push}
 use Rattle.integers.specs.Points.{Pt, dot, origin}
 use Rattle.integers.specs.Space.{Near}
@@ -27,10 +27,10 @@ use Rattle.nearest.proofs.Faces.{positive}
 pub record Held (ps qs : List Pt) (c : Carrier) : Type 0 where
   pub vs : List Pair
   pub carried : Carried vs c
-  pub corners : All (CornersOf ps qs) (pairs c.simplex)
+  pub corners : AllByRecursion (CornersOf ps qs) (pairs c.simplex)
 
 -- pairs of corners have differences of corners
-all-between : (ps qs : List Pt) (vs : List Pair) → All (CornersOf ps qs) vs → All (Between ps qs) (betweens vs)
+all-between : (ps qs : List Pt) (vs : List Pair) → AllByRecursion (CornersOf ps qs) vs → AllByRecursion (Between ps qs) (betweens vs)
 all-between ps qs [] h = tt
 all-between ps qs (v ∷ vs) h = (record { a = spot v.first; b = spot v.second; in_a = h.0.first; in_b = h.0.second; is = refl }, all-between ps qs vs h.1)
 

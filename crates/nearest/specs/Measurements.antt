@@ -1,7 +1,7 @@
 -- What a measurement says of two bodies.
 use Rattle.std.specs.Prelude.{◌≡◌, ℕ, ◌<◌, ◌≤◌, List, [], ◌∷◌, ◌++◌, map, replicate, ℤ, pos, ◌<ℤ◌, Result, unsigned_abs}
 use Rattle.std.proofs.Common.{zero-le}
-use Rattle.std.specs.List.{ContainsAt as Has, AllByRecursion as All}
+use Rattle.std.specs.List.{ContainsAt as Has, AllByRecursion}
 use Rattle.refusals.specs.declared.Refusal.{Refusal}
 use Rattle.integers.specs.Points.{Pt, ◌-ᵛ◌}
 use Rattle.integers.specs.Space.{Near}
@@ -43,9 +43,9 @@ pub record Witnessed (ps qs : List Pt) (m : Measurement) : Type 0 where
   pub spare : ℕ
   pub all : m.witnesses ≡ used ++ replicate spare blank
   -- each has a corner of the first body and one of the second
-  pub corners : All (λ v. Has ps (spot v.first) × Has qs (spot v.second)) used
+  pub corners : AllByRecursion (λ v. Has ps (spot v.first) × Has qs (spot v.second)) used
   -- each has a positive weight
-  pub weighty : All (λ v. pos 0 <ℤ v.weight) used
+  pub weighty : AllByRecursion (λ v. pos 0 <ℤ v.weight) used
   -- their differences are one to four affinely independent points
   pub independent : Independent (differences used)
   -- D / W is the mean of these differences by these weights

@@ -1,6 +1,6 @@
 -- What the steps of the search answer, of the corners ps and qs of two bodies.
 use Rattle.std.specs.Prelude.{List, pos, ◌<ℤ◌}
-use Rattle.std.specs.List.{ContainsAt as Has, AllByRecursion as All}
+use Rattle.std.specs.List.{ContainsAt as Has, AllByRecursion}
 use Rattle.integers.specs.Points.{Pt, ◌-ᵛ◌, origin}
 use Rattle.convex.specs.Means.{Nearest}
 use Rattle.convex.specs.Hulls.{Farthest}
@@ -24,5 +24,5 @@ pub record Probed (d : Pt) (ps qs : List Pt) (v : Pair) : Type 0 where
 pub record Ended (ps qs : List Pt) (c : Carrier) : Type 0 where
   pub sound : Sound c
   pub nearest : Nearest ps qs (carried c)
-  pub corners : All (CornersOf ps qs) (pairs c.simplex)
-  pub inside : All (λ k. pos 0 <ℤ k) (weights (points c.simplex))
+  pub corners : AllByRecursion (CornersOf ps qs) (pairs c.simplex)
+  pub inside : AllByRecursion (λ k. pos 0 <ℤ k) (weights (points c.simplex))

@@ -1,6 +1,6 @@
 -- What a simplex of the code means, a list of differences of corners; and what it carries.
 use Rattle.std.specs.Prelude.{◌≡◌, ◌⊎◌, List, [], ◌∷◌, ℤ, pos, ◌≤ℤ◌, ◌<ℤ◌}
-use Rattle.std.specs.List.{ContainsAt as Has, AllByRecursion as All}
+use Rattle.std.specs.List.{ContainsAt as Has, AllByRecursion}
 use Rattle.integers.specs.Points.{Pt, ◌-ᵛ◌}
 use Rattle.convex.specs.Fractions.{Frac, ◌÷◌, NoLonger}
 use Rattle.convex.specs.Means.{Mean}
@@ -43,7 +43,7 @@ pub record Sound (c : Carrier) : Type 0 where
 -- c has some of the pairs vs, and its foot is the shortest mean of all
 pub record Carried (vs : List Pair) (c : Carrier) : Type 0 where
   pub sound : Sound c
-  pub among : All (Has vs) (pairs c.simplex)
+  pub among : AllByRecursion (Has vs) (pairs c.simplex)
   pub carries : Carries (points c.simplex) (betweens vs)
 
 -- the shorter of c and d

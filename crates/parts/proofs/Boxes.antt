@@ -2,7 +2,7 @@
 use Rattle.std.proofs.Common.{◌≡◌, ℕ, Bool, true, false, cond, List, [], ◌∷◌, map, ℤ, pos, ◌+ℤ◌, ◌*ℤ◌, ◌≤ℤ◌, Some, refl, ap, ◌∙◌, arith, lit<}
 use lib.Signed.{lt_z}
 use Rattle.std.specs.Option.{option_map}
-use Rattle.std.specs.List.{ContainsAt as Has, AllByRecursion as All, slice_get}
+use Rattle.std.specs.List.{ContainsAt as Has, AllByRecursion, slice_get}
 use Rattle.std.proofs.ByRecursion.{All-map}
 use Rattle.std.proofs.lemmas.Int.{ints}
 use Rattle.integers.specs.Points.{Pt, dot}
@@ -50,10 +50,10 @@ sums h k l = omega (arith, ints)
 pub vertex-farthest : (d l h : Pt) → Under l h → (o : Octant) → dot d (vertex l h o) ≤ℤ dot d (vertex l h (towards d))
 vertex-farthest d l h u o = sums (side-farthest d.x l.x h.x o.x u.x) (side-farthest d.y l.y h.y o.y u.y) (side-farthest d.z l.z h.z o.z u.z)
 
-pub box-farthest : (d l h : Pt) → Under l h → All (λ p. dot d p ≤ℤ dot d (vertex l h (towards d))) (box l h)
+pub box-farthest : (d l h : Pt) → Under l h → AllByRecursion (λ p. dot d p ≤ℤ dot d (vertex l h (towards d))) (box l h)
 box-farthest d l h u = All-map (λ p. dot d p ≤ℤ dot d (vertex l h (towards d))) (vertex l h) octants (every octants)
   where
-    every : (os : List Octant) → All (λ o. dot d (vertex l h o) ≤ℤ dot d (vertex l h (towards d))) os
+    every : (os : List Octant) → AllByRecursion (λ o. dot d (vertex l h o) ≤ℤ dot d (vertex l h (towards d))) os
     every [] = tt
     every (o ∷ os) = (vertex-farthest d l h u o, every os)
 

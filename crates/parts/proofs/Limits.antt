@@ -1,6 +1,6 @@
 -- What the tests of how far points reach say.
 use Rattle.std.proofs.Common.{◌≡◌, ℕ, ◌≤◌, Bool, true, false, ◌&&◌, leb, List, nat_abs, Decides, MatchBool, sym, refl}
-use Rattle.std.specs.List.{AllByRecursion as All}
+use Rattle.std.specs.List.{AllByRecursion}
 use Rattle.std.proofs.lemmas.Bool.{leb-true, le-leb}
 use Rattle.std.proofs.lemmas.Bool.Decides.{Decides-and, Decides-like}
 use Rattle.std.proofs.ByRecursion.{Decides-by_and}
@@ -17,7 +17,7 @@ decides_near n p =
     (Decides-and (leb (nat_abs p.x) n) (leb (nat_abs p.y) n && leb (nat_abs p.z) n) (decides_leb _ n)
     (Decides-and (leb (nat_abs p.y) n) (leb (nat_abs p.z) n) (decides_leb _ n) (decides_leb _ n)))
 
-pub decides_all-near : (n : ℕ) (ps : List Pt) → Decides (are_near n ps) (All (Near n) ps)
+pub decides_all-near : (n : ℕ) (ps : List Pt) → Decides (are_near n ps) (AllByRecursion (Near n) ps)
 decides_all-near n ps = Decides-by_and (is_near n) (Near n) (are_near n) (decides_near n) refl (λ p qs. refl) ps
 
 -- a test that says whether a point is near says what the test here says

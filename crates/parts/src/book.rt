@@ -1,6 +1,6 @@
 // The part book: the interface between where corners come from and everything that measures them.
 ghost use Rattle.std.specs.Prelude.{◌≡◌, ℕ, ◌<◌, List, length, IfOk};
-ghost use Rattle.std.specs.List.{AllByRecursion as All};
+ghost use Rattle.std.specs.List.{AllByRecursion};
 ghost use Rattle.integers.specs.Space.{Near};
 ghost use Rattle.convex.specs.Hulls.{Found};
 ghost use Rattle.exact.specs.Space.{at};
@@ -36,7 +36,7 @@ pub trait Meaning {
     ghost some: { (b : Self) (n : ℕ) → IfOk (meaning b n) (λ ps. 0 < length ps) };
 
     // and each of its corners has coordinates from −5 to 5.
-    ghost near: { (b : Self) (n : ℕ) → IfOk (meaning b n) (λ ps. All (Near 5) ps) };
+    ghost near: { (b : Self) (n : ℕ) → IfOk (meaning b n) (λ ps. AllByRecursion (Near 5) ps) };
 }
 
 // A book of parts, asked by part number. No call changes anything.

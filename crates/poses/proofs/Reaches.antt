@@ -1,6 +1,6 @@
 -- How far turned, offset and swept corners reach.
 use Rattle.std.proofs.Common.{ℕ, true, false, cond, ◌++◌, map, IfOk, Ok, Err, arith}
-use Rattle.std.specs.List.{AllByRecursion as All}
+use Rattle.std.specs.List.{AllByRecursion}
 use Rattle.std.proofs.ByRecursion.{All-append, All-map, All-weaker}
 use Rattle.std.proofs.lemmas.Int.{ints}
 use Rattle.integers.specs.Points.{Pt, ◌+ᵛ◌}
@@ -32,10 +32,10 @@ pub travel_near : (o v : Pt) → Near 9 o → Near 9 (o +ᵛ v) → Near 18 v
 travel_near o v h k = (omega (arith, ints), omega (arith, ints), omega (arith, ints))
 
 -- the corners of a part in a pose
-pub posed-near : (s : Pose) (m : Part) → IfOk m (λ ps. All (Near 5) ps) → IfOk (posed s m) (λ ps. All (Near 14) ps)
+pub posed-near : (s : Pose) (m : Part) → IfOk m (λ ps. AllByRecursion (Near 5) ps) → IfOk (posed s m) (λ ps. AllByRecursion (Near 14) ps)
 posed-near s (Ok ps) h =
     let o = at s.offset in let v = at s.travel in let qs = map (placed s.turn o) ps in let rs = map (λ p. p +ᵛ v) qs in
-    let here : All (Near 14) qs = All-map _ (placed s.turn o) ps (All-weaker _ _ (λ p k. moved_near (turned s.turn p) o (turned-near 5 s.turn p k) s.near) ps h) in
-    let there : All (Near 14) rs = All-map _ (λ p. p +ᵛ v) qs (All-map _ (placed s.turn o) ps (All-weaker _ _ (λ p k. moved_twice (turned s.turn p) o v (turned-near 5 s.turn p k) s.reach) ps h)) in
-    elim (still v) as (λ b. All (Near 14) (cond b qs (qs ++ rs))) [ true ↦ here | false ↦ All-append _ qs rs here there ]
+    let here : AllByRecursion (Near 14) qs = All-map _ (placed s.turn o) ps (All-weaker _ _ (λ p k. moved_near (turned s.turn p) o (turned-near 5 s.turn p k) s.near) ps h) in
+    let there : AllByRecursion (Near 14) rs = All-map _ (λ p. p +ᵛ v) qs (All-map _ (placed s.turn o) ps (All-weaker _ _ (λ p k. moved_twice (turned s.turn p) o v (turned-near 5 s.turn p k) s.reach) ps h)) in
+    elim (still v) as (λ b. AllByRecursion (Near 14) (cond b qs (qs ++ rs))) [ true ↦ here | false ↦ All-append _ qs rs here there ]
 posed-near s (Err e) h = tt

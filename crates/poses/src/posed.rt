@@ -1,6 +1,6 @@
 // A part of a book in a pose, as a body.
 ghost use Rattle.std.specs.Prelude.{◌≡◌, IfOk};
-ghost use Rattle.std.specs.List.{AllByRecursion as All};
+ghost use Rattle.std.specs.List.{AllByRecursion};
 ghost use Rattle.integers.specs.Points.{◌+ᵛ◌};
 ghost use Rattle.integers.specs.Space.{Near};
 ghost use Rattle.exact.specs.Spots.{spot};
@@ -29,7 +29,7 @@ impl<'a, B: PartBook> Posed<'a, B> {
         ensures book { result.book.now ≡ book.now }
         ensures part { result.part ≡ part }
         ensures pose { result.pose ≡ pose }
-        ensures near { IfOk (posed_as pose (B.Meaning.meaning book.now part)) (λ ps. All (Near 14) ps) }
+        ensures near { IfOk (posed_as pose (B.Meaning.meaning book.now part)) (λ ps. AllByRecursion (Near 14) ps) }
     {
         Posed { book, part, pose }
     }

@@ -1,14 +1,14 @@
 -- The first best of a list.
 use Rattle.std.specs.Prelude.{◌≡◌, Bool, true, false, List, [], ◌∷◌, ◌++◌, Some, None, Option}
-use Rattle.std.specs.List.{AllByRecursion as All}
+use Rattle.std.specs.List.{AllByRecursion}
 
 -- x stands among xs; each of xs is no better than x; and each before x is worse
 pub record FirstBest {X : Type 0} (no-better : X → X → Bool) (xs : List X) (x : X) : Type 0 where
   pub before : List X
   pub behind : List X
   pub among : xs ≡ before ++ (x ∷ behind)
-  pub best : All (λ y. no-better y x ≡ true) xs
-  pub first : All (λ y. no-better x y ≡ false) before
+  pub best : AllByRecursion (λ y. no-better y x ≡ true) xs
+  pub first : AllByRecursion (λ y. no-better x y ≡ false) before
 
 -- the first best of xs, or nothing exactly when there is none
 abbrev pub Chosen : {X : Type 0} → (X → X → Bool) → List X → Option X → Type 0

@@ -1,7 +1,7 @@
 -- A test that computes over the whole table, and what it says of a row that passes it.
 use Rattle.std.proofs.Common.{◌≡◌, ℕ, ◌<◌, Bool, true, false, T, eqb, ltb, List, [], ◌∷◌, map, length, ℤ, pos, ◌*ℤ◌, nat_abs, ◌≤ℤ◌, ◌<ℤ◌, sym, refl, ap, ◌∙◌, arith, eqb→eq, ltb→lt}
 use lib.Signed.{le_z, lt_z}
-use Rattle.std.specs.List.{AllByRecursion as All}
+use Rattle.std.specs.List.{AllByRecursion}
 use Rattle.std.proofs.lemmas.Int.{ints}
 use Rattle.integers.specs.Points.{Pt, ◌-ᵛ◌, ◌·ᵛ◌, dot}
 use Rattle.integers.specs.Divisors.{Coprime}
@@ -72,7 +72,7 @@ eq_p_is a b t =
     let z = eq_z_is a.z b.z (both_right (eq_z a.y b.y) _ (both_right (eq_z a.x b.x) _ t)) in
     λ i. record { x = x i; y = y i; z = z i }
 
-every-all : {X : Type 0} (P : X → Type 0) (f : X → Bool) → ((x : X) → T (f x) → P x) → (xs : List X) → T (every f xs) → All P xs
+every-all : {X : Type 0} (P : X → Type 0) (f : X → Bool) → ((x : X) → T (f x) → P x) → (xs : List X) → T (every f xs) → AllByRecursion P xs
 every-all P f h [] t = tt
 every-all P f h (x ∷ xs) t = (h x (both_left (f x) (every f xs) t), every-all P f h xs (both_right (f x) (every f xs) t))
 
@@ -111,11 +111,11 @@ correct r s m h =
     positive : (n : ℕ) → 0 < n → pos 0 <ℤ pos n
     positive n l = omega (arith, ints)
 
-all-correct : (rs : List Row) (cs : List Certificate) → T (tests rs cs) → All Correct rs
+all-correct : (rs : List Row) (cs : List Certificate) → T (tests rs cs) → AllByRecursion Correct rs
 all-correct [] cs t = tt
 all-correct (r ∷ rs) [] t = absurd t
 all-correct (r ∷ rs) (c ∷ cs) t = (correct r (sound r c (both_left (test r c) (tests rs cs) t)), all-correct rs cs (both_right (test r c) (tests rs cs) t))
 
 -- the whole table, by one computed test
-pub table-correct : All Correct table
+pub table-correct : AllByRecursion Correct table
 table-correct = all-correct table certificates tt

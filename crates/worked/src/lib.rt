@@ -2,13 +2,13 @@
 #![tactic(auto)]
 
 ghost use Rattle.std.specs.Prelude.{◌≡◌, length};
-ghost use Rattle.std.specs.List.{AllByRecursion as All};
+ghost use Rattle.std.specs.List.{AllByRecursion};
 ghost use Rattle.worked.specs.Table.{table, Correct};
 
 // How many rows the table has; whatever measures the bodies of a row says what the row says.
 pub fn worked_measurements() -> usize
     ensures count { result ≡ length table }
-    ensures correct { All Correct table }
+    ensures correct { AllByRecursion Correct table }
 {
     12
 }

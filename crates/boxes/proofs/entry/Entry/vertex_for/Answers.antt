@@ -2,7 +2,7 @@ use Rattle.std.proofs.Common.{sym, ◌∙◌}
 use Rattle.std.specs.Option.{option_map}
 use Rattle.exact.specs.Space.{at}
 use Rattle.parts.specs.Corners.{lies}
-use Rattle.boxes.proofs.Entries.{vertex_made}
+use Rattle.boxes.specs.EntryLaws.{vertex_made}
 use Rattle.boxes.proofs.entry.Entry.vertex_for.Goals as goal
 
 pub returns-then-counts_for : goal.returns-then-counts_for

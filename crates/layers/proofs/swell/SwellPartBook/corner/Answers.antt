@@ -8,7 +8,7 @@ use Rattle.layers.proofs.swell.SwellPartBook.corner.Goals as goal
 
 pub returns-in_err-has_room : goal.returns-in_err-has_room
 returns-in_err-has_room g c =
-    let (s, is, from) = err_from_is_err_and c.from-residual.result c.from-residual.ensures.1 in
+    let (s, is, from) = err_from_is_err_and c.from_residual.result c.from_residual.ensures.1 in
     rw (is, from) (swelled_corner_refused c.args.self.now.by c.args.part c.args.k (g.B.Meaning.meaning c.args.self.now.book c.args.part) _ c.in_err-has_room.ensures)
 
 pub widen-requires : goal.widen-requires

@@ -26,7 +26,7 @@ is c =
     ]
 
 pub invariant_of-result : goal.invariant_of-result
-invariant_of-result c = (subst (Near 5) (sym (is c)) (turned-near 5 c.args.self (lies c.args.c) c.args.c.near), tt)
+invariant_of-result c = record { near = subst (Near 5) (sym (is c)) (turned-near 5 c.args.self (lies c.args.c) c.args.c.near) }
 
 pub returns : goal.returns
 returns c = is (goal.at.returns c).Joined-self

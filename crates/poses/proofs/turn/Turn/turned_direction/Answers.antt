@@ -22,7 +22,7 @@ is c =
     ]
 
 pub invariant_of-result : goal.invariant_of-result
-invariant_of-result c = (subst (Near 2000000000) (sym (is c)) (turned-near 2000000000 c.args.self (heading c.args.direction) c.args.direction.near), tt)
+invariant_of-result c = record { near = subst (Near 2000000000) (sym (is c)) (turned-near 2000000000 c.args.self (heading c.args.direction) c.args.direction.near) }
 
 pub returns : goal.returns
 returns c = is (goal.at.returns c).Joined-self

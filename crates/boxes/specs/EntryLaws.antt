@@ -2,7 +2,7 @@
 use Rattle.std.proofs.Common.{◌≡◌, ℕ, zero, suc, ◌+◌, ◌-◌, ◌*◌, ◌<◌, ◌≤◌, Bool, true, false, cond, ◌&&◌, eqb, List, [], ◌∷◌, ◌++◌, map, length, get_or, ℤ, nat_abs, ◌≤ℤ◌, IfOk, Some, None, Ok, Err, filter, Option, sym, refl, ap, ◌∙◌, subst, arith}
 use lib.Signed.{le_z}
 use Rattle.std.specs.Option.{option_map}
-use Rattle.std.specs.List.{AllByRecursion as All}
+use Rattle.std.specs.List.{AllByRecursion}
 use Rattle.std.proofs.ByRecursion.{All-map}
 use Rattle.std.proofs.lemmas.Int.{ints}
 use Rattle.std.proofs.lemmas.Bool.{and_parts, cond-true, cond-false}
@@ -74,28 +74,28 @@ some_of s (p ∷ ps) = omega arith
 pub boxed-some : (es : List Entry) (n : ℕ) → IfOk (boxed es n) (λ ps. 0 < length ps)
 boxed-some es n = some_of (part_missing BoxBook n) (listed n es)
 
-near_of : (s : Refusal) (ps : List Pt) → All (Near 5) ps → IfOk (corners_or s ps) (λ qs. All (Near 5) qs)
+near_of : (s : Refusal) (ps : List Pt) → AllByRecursion (Near 5) ps → IfOk (corners_or s ps) (λ qs. AllByRecursion (Near 5) qs)
 near_of s [] h = tt
 near_of s (p ∷ ps) h = h
 
-corners-near : (n : ℕ) (e : Entry) → counts_for_part n e ≡ true → All (Near 5) (corners_of e)
+corners-near : (n : ℕ) (e : Entry) → counts_for_part n e ≡ true → AllByRecursion (Near 5) (corners_of e)
 corners-near n e t = let c = counted n e t in All-map (Near 5) (vertex (at e.low) (at e.high)) octants (every c.low c.high octants)
   where
-    every : Near 5 (at e.low) → Near 5 (at e.high) → (os : List Octant) → All (λ o. Near 5 (vertex (at e.low) (at e.high) o)) os
+    every : Near 5 (at e.low) → Near 5 (at e.high) → (os : List Octant) → AllByRecursion (λ o. Near 5 (vertex (at e.low) (at e.high) o)) os
     every l h [] = tt
     every l h (o ∷ os) = (vertex-near 5 (at e.low) (at e.high) o l h, every l h os)
 
-pub kept-all : {X : Type 0} (test : X → Bool) (Q : X → Type 0) (xs : List X) → All (λ x. test x ≡ true → Q x) xs → All Q (filter test xs)
+pub kept-all : {X : Type 0} (test : X → Bool) (Q : X → Type 0) (xs : List X) → AllByRecursion (λ x. test x ≡ true → Q x) xs → AllByRecursion Q (filter test xs)
 kept-all test Q [] h = tt
 kept-all test Q (x ∷ xs) h = go (test x) refl (kept-all test Q xs h.1)
   where
-    go : (b : Bool) → test x ≡ b → All Q (filter test xs) → All Q (cond b (x ∷ filter test xs) (filter test xs))
+    go : (b : Bool) → test x ≡ b → AllByRecursion Q (filter test xs) → AllByRecursion Q (cond b (x ∷ filter test xs) (filter test xs))
     go true e r = (h.0 e, r)
     go false e r = r
 
-pub boxed-near : (es : List Entry) (n : ℕ) → IfOk (boxed es n) (λ ps. All (Near 5) ps)
-boxed-near es n = near_of (part_missing BoxBook n) (listed n es) (all_joined (Near 5) corners_of (filter (counts_for_part n) es) (kept-all (counts_for_part n) (λ e. All (Near 5) (corners_of e)) es (every es)))
+pub boxed-near : (es : List Entry) (n : ℕ) → IfOk (boxed es n) (λ ps. AllByRecursion (Near 5) ps)
+boxed-near es n = near_of (part_missing BoxBook n) (listed n es) (all_joined (Near 5) corners_of (filter (counts_for_part n) es) (kept-all (counts_for_part n) (λ e. AllByRecursion (Near 5) (corners_of e)) es (every es)))
   where
-    every : (es : List Entry) → All (λ e. counts_for_part n e ≡ true → All (Near 5) (corners_of e)) es
+    every : (es : List Entry) → AllByRecursion (λ e. counts_for_part n e ≡ true → AllByRecursion (Near 5) (corners_of e)) es
     every [] = tt
     every (e ∷ es) = (corners-near n e, every es)
