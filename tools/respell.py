@@ -26,7 +26,11 @@ BY_HAND = {
     "weights-of": "weights_by",
     "getD-mix": "get_or-mix",
     "getD-scored": "get_or-scored",
+    "left-fits": "left_fits",
+    "right-fits": "right_fits",
 }
+# A parameter that clauses show.
+PARAMETERS = {"no-better": "no_better"}
 # Words of the library that names here are joined with, and short words that join nothing although a definition has that name.
 WORDS = {"length", "map", "get_or"}
 SMALL = {"by", "at", "of", "is", "in", "on", "to", "for", "as", "no", "not"}
@@ -105,11 +109,11 @@ def main(argv):
     words, defined = own_names(root)
     names = ({snake(d) for d in defined} | {snake(d).lower() for d in defined} | WORDS) - SMALL
     turn = {n: respelled(n, names) for n in words}
-    turn = {a: b for a, b in turn.items() if a != b}
+    turn = {a: b for a, b in turn.items() if a != b} | PARAMETERS
     tokens = set()
     for p in files(root, (".rt", ".antt")):
         tokens.update(TOKEN.findall(read(p)))
-    bad = [f"{a} -> {b}: that name is taken" for a, b in turn.items() if b in tokens and b not in turn]
+    bad = [f"{a} -> {b}: that name is taken" for a, b in turn.items() if b in tokens and b not in turn and a not in PARAMETERS]
     back = {}
     for a, b in turn.items():
         back.setdefault(b, []).append(a)

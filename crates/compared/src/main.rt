@@ -42,7 +42,7 @@ fn corners(heap: Global, all: &Vec<i64>, from: usize, count: usize) -> anyhow::R
 }
 
 // The measurement of one line.
-fn compared(rt: &(impl Print + Alloc<A = Global>), line: &str) -> anyhow::Result<()> {
+fn compared(rt: &(impl Print + AllocGlobal), line: &str) -> anyhow::Result<()> {
     let heap = rt.alloc();
     let all = numbers(heap, line)?;
     let n = usize::try_from(number(&all, 0)?)?;
@@ -68,7 +68,7 @@ fn compared(rt: &(impl Print + Alloc<A = Global>), line: &str) -> anyhow::Result
     Ok(())
 }
 
-fn run(rt: &(impl Input + Print + Alloc<A = Global>)) -> anyhow::Result<()> {
+fn run(rt: &(impl Input + Print + AllocGlobal)) -> anyhow::Result<()> {
     for line in rt.lines(rt.alloc()) {
         let line = line?;
         compared(rt, line.as_str())?;

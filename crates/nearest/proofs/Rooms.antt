@@ -40,24 +40,24 @@ module _ (l r : ℕ) (p : l < 2 ^ 63) (q : r < 2 ^ 63) where
   three h = let o = one (omega arith) in let t = two (omega arith) in both_of _ _ (lt→ltb _ _ h) (both_of _ _ t o)
 
 -- so with the bounds of a room or a scale
-pub one-fits : {a b : Pt} (h : Room a b) → T (One h.left h.right h.left-fits h.right-fits)
-one-fits h = one h.left h.right h.left-fits h.right-fits (omega (arith, h.fits))
+pub one-fits : {a b : Pt} (h : Room a b) → T (One h.left h.right h.left_fits h.right_fits)
+one-fits h = one h.left h.right h.left_fits h.right_fits (omega (arith, h.fits))
 
-pub two_fit : {a b : Pt} (h : Room a b) → T (Two h.left h.right h.left-fits h.right-fits)
-two_fit h = two h.left h.right h.left-fits h.right-fits (omega (arith, h.fits))
+pub two_fit : {a b : Pt} (h : Room a b) → T (Two h.left h.right h.left_fits h.right_fits)
+two_fit h = two h.left h.right h.left_fits h.right_fits (omega (arith, h.fits))
 
-pub three_fit : {a b : Pt} (h : Room a b) → T (Three h.left h.right h.left-fits h.right-fits)
-three_fit h = three h.left h.right h.left-fits h.right-fits h.fits
+pub three_fit : {a b : Pt} (h : Room a b) → T (Three h.left h.right h.left_fits h.right_fits)
+three_fit h = three h.left h.right h.left_fits h.right_fits h.fits
 
-pub scale-fits : {k : ℤ} {a : Pt} (h : Scale k a) → T (One h.left h.right h.left-fits h.right-fits)
-scale-fits h = one h.left h.right h.left-fits h.right-fits h.fits
+pub scale-fits : {k : ℤ} {a : Pt} (h : Scale k a) → T (One h.left h.right h.left_fits h.right_fits)
+scale-fits h = one h.left h.right h.left_fits h.right_fits h.fits
 
 -- ---- rooms and scales, by numerals
 pub roomy : (l r : ℕ) {a b : Pt} → Near l a → Near r b → T (ltb (l * r + l * r + l * r) (2 ^ 63)) → T (ltb l (2 ^ 63)) → T (ltb r (2 ^ 63)) → Room a b
-roomy l r h k s t u = record { left = l; right = r; left_in = h; right_in = k; left-fits = ltb→lt _ _ t; right-fits = ltb→lt _ _ u; fits = ltb→lt _ _ s }
+roomy l r h k s t u = record { left = l; right = r; left_in = h; right_in = k; left_fits = ltb→lt _ _ t; right_fits = ltb→lt _ _ u; fits = ltb→lt _ _ s }
 
 pub scaly : (l r : ℕ) {k : ℤ} {a : Pt} → nat_abs k ≤ l → Near r a → T (ltb (l * r) (2 ^ 63)) → T (ltb l (2 ^ 63)) → T (ltb r (2 ^ 63)) → Scale k a
-scaly l r h k s t u = record { left = l; right = r; left_in = h; right_in = k; left-fits = ltb→lt _ _ t; right-fits = ltb→lt _ _ u; fits = ltb→lt _ _ s }
+scaly l r h k s t u = record { left = l; right = r; left_in = h; right_in = k; left_fits = ltb→lt _ _ t; right_fits = ltb→lt _ _ u; fits = ltb→lt _ _ s }
 
 -- with room for a sum
 pub wide_by : {m : ℕ} {p q : Pt} → p ≡ q → Near m q → T (leb m (2 ^ 60)) → Near (2 ^ 60) p

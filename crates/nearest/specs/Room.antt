@@ -9,8 +9,8 @@ pub record Room (a b : Pt) : Type 0 where
   pub right : ℕ
   pub left_in : Near left a
   pub right_in : Near right b
-  pub left-fits : left < 2 ^ 63
-  pub right-fits : right < 2 ^ 63
+  pub left_fits : left < 2 ^ 63
+  pub right_fits : right < 2 ^ 63
   pub fits : left * right + left * right + left * right < 2 ^ 63
 
 -- the product of k and a coordinate of a fits
@@ -19,6 +19,6 @@ pub record Scale (k : ℤ) (a : Pt) : Type 0 where
   pub right : ℕ
   pub left_in : unsigned_abs k ≤ left
   pub right_in : Near right a
-  pub left-fits : left < 2 ^ 63
-  pub right-fits : right < 2 ^ 63
+  pub left_fits : left < 2 ^ 63
+  pub right_fits : right < 2 ^ 63
   pub fits : left * right < 2 ^ 63

@@ -3,17 +3,17 @@ use Rattle.std.specs.Prelude.{◌≡◌, Bool, true, false, List, [], ◌∷◌,
 use Rattle.std.specs.List.{AllByRecursion}
 
 -- x stands among xs; each of xs is no better than x; and each before x is worse
-pub record FirstBest {X : Type 0} (no-better : X → X → Bool) (xs : List X) (x : X) : Type 0 where
+pub record FirstBest {X : Type 0} (no_better : X → X → Bool) (xs : List X) (x : X) : Type 0 where
   pub before : List X
   pub behind : List X
   pub among : xs ≡ before ++ (x ∷ behind)
-  pub best : AllByRecursion (λ y. no-better y x ≡ true) xs
-  pub first : AllByRecursion (λ y. no-better x y ≡ false) before
+  pub best : AllByRecursion (λ y. no_better y x ≡ true) xs
+  pub first : AllByRecursion (λ y. no_better x y ≡ false) before
 
 -- the first best of xs, or nothing exactly when there is none
 abbrev pub Chosen : {X : Type 0} → (X → X → Bool) → List X → Option X → Type 0
-Chosen no-better xs None = xs ≡ []
-Chosen no-better xs (Some x) = FirstBest no-better xs x
+Chosen no_better xs None = xs ≡ []
+Chosen no_better xs (Some x) = FirstBest no_better xs x
 
 -- one step of a walk through a list: its first and the rest, or nothing at its end
 abbrev pub Step : {X : Type 0} → List X → Option X → List X → Type 0
@@ -22,6 +22,6 @@ Step xs (Some x) ys = xs ≡ x ∷ ys
 
 -- the order of scores with one below all of them, for what has no score
 abbrev pub unscored : {X : Type 0} → (X → X → Bool) → Option X → Option X → Bool
-unscored no-better None y = true
-unscored no-better (Some x) None = false
-unscored no-better (Some x) (Some y) = no-better x y
+unscored no_better None y = true
+unscored no_better (Some x) None = false
+unscored no_better (Some x) (Some y) = no_better x y
