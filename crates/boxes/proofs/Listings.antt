@@ -1,5 +1,5 @@
 -- The corners of a part in their order, as a walk through the entries meets them.
-use Rattle.std.proofs.Common.{◌≡◌, ℕ, zero, suc, ◌+◌, ◌-◌, ◌%◌, ◌<◌, ◌≤◌, Bool, true, false, cond, List, [], ◌∷◌, ◌++◌, length, get_or, drop, Some, None, Ok, Err, filter, Option, sym, refl, ap, ◌∙◌, subst, arith, length-append}
+use Rattle.std.proofs.Common.{◌≡◌, ℕ, ◌+◌, ◌-◌, ◌%◌, ◌<◌, ◌≤◌, Bool, true, false, cond, List, [], ◌∷◌, ◌++◌, length, get_or, drop, Some, None, Ok, Err, filter, sym, refl, ap, ◌∙◌, arith, length-append}
 use borrow.Author.Tests.{clash}
 use Rattle.std.specs.List.{flat_map, slice_get}
 use Rattle.std.proofs.lemmas.List.{drop_more, drop_all}
@@ -10,13 +10,13 @@ use Rattle.refusals.specs.Slips.{part_missing}
 use Rattle.integers.specs.Points.{Pt}
 use Rattle.exact.specs.Space.{at}
 use Rattle.parts.specs.declared.octant.Octant.{Octant}
-use Rattle.parts.specs.Boxes.{vertex, octants, box}
+use Rattle.parts.specs.Boxes.{octants}
 use Rattle.parts.specs.Books.{corner_of}
 use Rattle.parts.proofs.Blocks.{nth_left, nth_right}
 use Rattle.parts.proofs.Boxes.{box_nth}
 use Rattle.boxes.specs.declared.entry.Entry.{Entry}
 use Rattle.boxes.specs.Entries.{counts_for_part, corners_of, corners_or, listed, boxed}
-use Rattle.boxes.proofs.Reaches.{vertex_of, vertex_for_part, vertex_counts, vertex_skips}
+use Rattle.boxes.proofs.Reaches.{vertex_for_part, vertex_counts, vertex_skips}
 
 -- how far a walk for the k-th corner of part n has come at entry i: `left` more corners of what is to come, and whether any came before
 pub record Walked (n k : ℕ) (es : List Entry) (i left : ℕ) (known : Bool) : Type 0 where

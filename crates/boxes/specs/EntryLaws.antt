@@ -1,24 +1,21 @@
 -- What an entry that counts says of its box, and which corners a part has.
-use Rattle.std.proofs.Common.{◌≡◌, ℕ, zero, suc, ◌+◌, ◌-◌, ◌*◌, ◌<◌, ◌≤◌, Bool, true, false, cond, ◌&&◌, eqb, List, [], ◌∷◌, ◌++◌, map, length, get_or, ℤ, nat_abs, ◌≤ℤ◌, IfOk, Some, None, Ok, Err, filter, Option, sym, refl, ap, ◌∙◌, subst, arith}
+use Rattle.std.proofs.Common.{◌≡◌, ℕ, ◌<◌, ◌≤◌, Bool, true, false, cond, ◌&&◌, eqb, List, [], ◌∷◌, length, ℤ, nat_abs, ◌≤ℤ◌, IfOk, Some, None, filter, Option, sym, refl, ap, ◌∙◌, arith}
 use lib.Signed.{le_z}
-use Rattle.std.specs.Option.{option_map}
 use Rattle.std.specs.List.{AllByRecursion}
 use Rattle.std.proofs.ByRecursion.{All-map}
 use Rattle.std.proofs.lemmas.Int.{ints}
-use Rattle.std.proofs.lemmas.Bool.{and_parts, cond-true, cond-false}
+use Rattle.std.proofs.lemmas.Bool.{and_parts, cond-true}
 use Rattle.refusals.specs.declared.Refusal.{Refusal}
 use Rattle.refusals.specs.declared.Layer.TheVariants.{BoxBook}
 use Rattle.refusals.specs.Slips.{part_missing}
-use Rattle.integers.specs.Points.{Pt, dot}
+use Rattle.integers.specs.Points.{Pt}
 use Rattle.integers.specs.Space.{Near}
 use Rattle.exact.specs.Space.{at}
 use Rattle.exact.specs.Spots.{Kept}
 use Rattle.parts.specs.declared.octant.Octant.{Octant}
 use Rattle.parts.specs.declared.octant.Side.{Side}
 use Rattle.parts.specs.declared.octant.Side.TheVariants.{Low, High}
-use Rattle.parts.specs.declared.corner.PartCorner.{PartCorner}
-use Rattle.parts.specs.Boxes.{taken, vertex, octants, box, towards}
-use Rattle.parts.specs.Corners.{lies}
+use Rattle.parts.specs.Boxes.{taken, vertex, octants}
 use Rattle.parts.specs.Limits.{is_near}
 use Rattle.parts.proofs.Limits.{decides_near}
 use Rattle.parts.proofs.Boxes.{Under}

@@ -1,5 +1,5 @@
 -- Quotients by a common divisor: that they fit 64 bits, and that the divisor does.
-use Rattle.std.proofs.Common.{◌≡◌, ℕ, suc, ◌*◌, ◌/◌, ◌^◌, ◌<◌, ◌≤◌, ℤ, pos, negsuc, ◌*ℤ◌, nat_abs, ◌<ℤ◌, sym, ap, ◌∙◌, subst, ap₂, subst₂, div-le_self, arith, w64, SFits, to_z, of_z}
+use Rattle.std.proofs.Common.{◌≡◌, ℕ, suc, ◌^◌, ◌<◌, ◌≤◌, ℤ, pos, negsuc, ◌*ℤ◌, nat_abs, ◌<ℤ◌, sym, ap, ◌∙◌, subst, ap₂, subst₂, div-le_self, arith, w64, SFits, to_z, of_z}
 use lib.IntN.{*ℤ-zero}
 use lib.Signed.{quot_z}
 use Rattle.std.proofs.lemmas.Int.{ints, to_z-of_z, to_z_pos}

@@ -1,5 +1,5 @@
 -- What the two searches answer, in terms of corners and of gaps.
-use Rattle.std.specs.Prelude.{◌≡◌, ℕ, Bool, not, List, [], Option, int_le}
+use Rattle.std.specs.Prelude.{ℕ, not, List, Option, int_le}
 use Rattle.integers.specs.Points.{Pt, dot}
 use Rattle.exact.specs.declared.corner.Corner.{Corner}
 use Rattle.exact.specs.declared.gap.Gap.{Gap}

@@ -1,9 +1,8 @@
 -- Inequalities and equations from hypotheses, by a certificate: a list of quantities that are not negative, whose sum is the difference of the two sides by computation.
-use Rattle.std.proofs.Common.{◌≡◌, ℕ, List, [], ◌∷◌, ℤ, pos, ◌+ℤ◌, ◌-ℤ◌, ◌*ℤ◌, ◌≤ℤ◌, ◌<ℤ◌, sym, refl, ap, ◌∙◌, arith}
+use Rattle.std.proofs.Common.{◌≡◌, ℕ, List, [], ◌∷◌, ℤ, pos, ◌+ℤ◌, ◌-ℤ◌, ◌*ℤ◌, ◌≤ℤ◌, ◌<ℤ◌, refl, arith}
 use Rattle.std.proofs.lemmas.Int.{ints}
-use Rattle.integers.proofs.Laws.{*ℤ_negℤ}
-use Rattle.integers.proofs.Solver.{Exp, var, con, ◌⊕◌, ◌⊗◌, ◌⊖◌, neg, eval, residue, nil, solve}
-use Rattle.integers.proofs.Order.{gap, *ℤ_nonneg, sq_nonneg, ≤ℤ_by, <ℤ_by, *ℤ_pos, gap<, +ℤ_nonneg}
+use Rattle.integers.proofs.Solver.{Exp, con, ◌⊕◌, ◌⊗◌, ◌⊖◌, eval, residue, nil, solve}
+use Rattle.integers.proofs.Order.{gap, *ℤ_nonneg, sq_nonneg, ≤ℤ_by, +ℤ_nonneg}
 
 pub record Fact (ρ : List ℤ) : Type 0 where
   pub gives : Exp

@@ -1,5 +1,5 @@
 -- Divisors of sums and remainders, for Euclid's algorithm, and what a division by the greatest common divisor leaves.
-use Rattle.std.proofs.Common.{◌≡◌, ℕ, zero, suc, ◌+◌, ◌-◌, ◌*◌, ◌/◌, ◌%◌, ◌<◌, ◌≤◌, List, [], ◌∷◌, map, ℤ, pos, negsuc, ◌+ℤ◌, ◌*ℤ◌, neg_ℤ, nat_abs, ◌<ℤ◌, sym, refl, ap, ◌∙◌, subst, ap₂, mul_assoc, mul_comm, add-mul, one-mul, div-add-mod', zero-mul, arith}
+use Rattle.std.proofs.Common.{◌≡◌, ℕ, zero, suc, ◌+◌, ◌-◌, ◌*◌, ◌/◌, ◌%◌, ◌<◌, ◌≤◌, List, [], ◌∷◌, map, ℤ, pos, negsuc, ◌+ℤ◌, ◌*ℤ◌, neg_ℤ, nat_abs, sym, refl, ap, ◌∙◌, subst, ap₂, mul_assoc, mul_comm, add-mul, one-mul, div-add-mod', zero-mul, arith}
 use native.Mathlib.Nat.{mul-sub, mul-div_left, eq_of_mul-eq-mul_right}
 use lib.IntN.{*ℤ-zero, *ℤ_comm}
 use lib.Signed.{quot_z}

@@ -1,5 +1,5 @@
 -- Bounded numbers and points as environments for `Overflow`.
-use Rattle.std.proofs.Common.{ℕ, ◌≤◌, List, [], ◌∷◌, ℤ, pos, negsuc, nat_abs, arith}
+use Rattle.std.proofs.Common.{ℕ, ◌≤◌, List, ◌∷◌, ℤ, pos, negsuc, nat_abs, arith}
 use Rattle.std.proofs.lemmas.Int.{ints}
 use Rattle.integers.specs.Points.{Pt}
 use Rattle.integers.specs.Space.{Near}

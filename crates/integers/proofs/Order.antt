@@ -1,10 +1,9 @@
 -- The order of ℤ against sums and products.
-use Rattle.std.proofs.Common.{◌≡◌, ℕ, zero, suc, ◌+◌, ◌*◌, ◌<◌, ◌≤◌, T, leb, ◌⊎◌, List, [], ◌∷◌, ℤ, pos, negsuc, ◌+ℤ◌, ◌-ℤ◌, ◌*ℤ◌, neg_ℤ, ◌≤ℤ◌, ◌<ℤ◌, sym, refl, ap, ◌∙◌, subst, ap₂, inl, inr, suc-le-suc, zero-le, arith, le→leb, ltb→lt, lt→ltb, leb→le}
-use lib.IntN.{*ℤ-zero, *ℤ_comm}
+use Rattle.std.proofs.Common.{◌≡◌, zero, suc, ◌*◌, List, [], ◌∷◌, ℤ, pos, negsuc, ◌+ℤ◌, ◌-ℤ◌, ◌*ℤ◌, neg_ℤ, ◌≤ℤ◌, ◌<ℤ◌, sym, refl, zero-le, arith, le→leb, lt→ltb, leb→le}
 use lib.Signed.{clash_ℤ}
 use Rattle.std.proofs.lemmas.Int.{ints, by_lt_z}
 use Rattle.integers.specs.Bounds.{Bound}
-use Rattle.integers.proofs.Solver.{Exp, var, con, ◌⊕◌, ◌⊗◌, ◌⊖◌, neg, eval, residue, nil, solve}
+use Rattle.integers.proofs.Solver.{Exp, var, con, ◌⊕◌, ◌⊗◌, ◌⊖◌, eval, residue, nil, solve}
 
 -- ---- the order itself
 pub ≤ℤ_trans : {a b c : ℤ} → a ≤ℤ b → b ≤ℤ c → a ≤ℤ c

@@ -1,6 +1,6 @@
 -- What a program computes, against what the expression means. A signed value that the code computes is kept as its bits: `to_z w (of_z w z)`.
 -- Over variables with known bounds, one test by computation (`ok`) says that no part of an expression overflows; `fits` answers what each operation asks, and `kept-is` what the whole comes to.
-use Rattle.std.proofs.Common.{◌≡◌, ℕ, zero, suc, ◌+◌, ◌*◌, ◌^◌, ◌<◌, ◌≤◌, Bool, true, false, T, ltb, List, [], ◌∷◌, ℤ, pos, negsuc, ◌+ℤ◌, ◌-ℤ◌, ◌*ℤ◌, neg_ℤ, nat_abs, ◌≤ℤ◌, sym, refl, ap, ◌∙◌, subst, ap₂, arith, ltb→lt, w64, SFits, to_z, of_z}
+use Rattle.std.proofs.Common.{◌≡◌, ℕ, zero, suc, ◌+◌, ◌*◌, ◌^◌, ◌<◌, Bool, true, false, T, ltb, List, [], ◌∷◌, ℤ, pos, negsuc, ◌+ℤ◌, ◌-ℤ◌, ◌*ℤ◌, neg_ℤ, nat_abs, sym, refl, ap, ◌∙◌, subst, ap₂, arith, ltb→lt, w64, SFits, to_z, of_z}
 use lib.Signed.{mag}
 use mir.Syntax.{Width}
 use mir.Val.{hbits}

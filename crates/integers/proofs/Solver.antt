@@ -1,13 +1,13 @@
 -- A solver for polynomial identities over ℤ, by reflection: `solve ρ l r refl` proves `eval ρ l ≡ eval ρ r`.
 -- A polynomial is a list of terms in ascending order of their monomials. A monomial is one native number, whose digit i to the base 256 is the exponent of the variable i,
 -- so that a product of monomials is a sum and their order is the native comparison. A total degree below 256 keeps the digits from carrying (`residue` tests that).
-use Rattle.std.proofs.Common.{◌≡◌, ℕ, zero, suc, ◌+◌, ◌*◌, ◌/◌, ◌%◌, ◌^◌, ◌<◌, ◌≤◌, max, Bool, true, false, not, T, List, [], ◌∷◌, ℤ, pos, negsuc, ◌+ℤ◌, ◌-ℤ◌, ◌*ℤ◌, neg_ℤ, sym, refl, ap, ◌∙◌, subst, ap₂, arith, eqb→eq, leb→le}
+use Rattle.std.proofs.Common.{◌≡◌, ℕ, zero, suc, ◌+◌, ◌*◌, ◌/◌, ◌%◌, ◌^◌, ◌<◌, ◌≤◌, max, T, List, [], ◌∷◌, ℤ, pos, negsuc, ◌+ℤ◌, ◌-ℤ◌, ◌*ℤ◌, neg_ℤ, sym, refl, ap, ◌∙◌, subst, ap₂, arith, eqb→eq, leb→le}
 use Prim.Native.Nat.{compare, Ordering}
 use native.Mathlib.Nat.{pow-succ'}
 use lib.Dec.{is_le, compare_is_eq}
 use lib.IntN.{pow, one, zero-*ℤ, *ℤ-zero, *ℤ-one, *ℤ_comm, +ℤ_idr}
 use Rattle.std.proofs.lemmas.Int.{ints}
-use Rattle.integers.proofs.Laws.{*ℤ-+ℤ, +ℤ-*ℤ, *ℤ_assoc, *ℤ_swap, one-*ℤ, negℤ_is, pow_add}
+use Rattle.integers.proofs.Laws.{*ℤ-+ℤ, +ℤ-*ℤ, *ℤ_swap, one-*ℤ, negℤ_is, pow_add}
 
 -- ---- expressions
 infixl 6 ◌⊕◌ ◌⊖◌

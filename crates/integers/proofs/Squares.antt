@@ -1,5 +1,5 @@
 -- Squares of points: never negative, zero only of the origin, and the inequality of Cauchy and Schwarz.
-use Rattle.std.proofs.Common.{◌≡◌, List, [], ◌∷◌, ℤ, pos, ◌+ℤ◌, ◌-ℤ◌, ◌*ℤ◌, ◌≤ℤ◌, refl, arith}
+use Rattle.std.proofs.Common.{◌≡◌, [], ◌∷◌, ℤ, pos, ◌-ℤ◌, ◌*ℤ◌, ◌≤ℤ◌, refl, arith}
 use Rattle.std.proofs.lemmas.Int.{ints}
 use Rattle.integers.specs.Points.{Pt, ◌-ᵛ◌, dot}
 use Rattle.integers.proofs.Solver.{◌⊗◌}

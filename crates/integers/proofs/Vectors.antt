@@ -1,7 +1,7 @@
 -- Quoted points, for the solver: what `specs.Points` has over ℤ, over expressions. A call here evaluates to the call there of the same name.
-use Rattle.std.proofs.Common.{◌≡◌, ℕ, ◌+◌, ◌*◌, List, [], ◌∷◌, ◌++◌, ℤ, pos, refl}
+use Rattle.std.proofs.Common.{◌≡◌, ℕ, ◌+◌, ◌*◌, List, [], ◌∷◌, ℤ, pos}
 use Rattle.integers.specs.Points.{Pt}
-use Rattle.integers.proofs.Solver.{Exp, var, con, ◌⊕◌, ◌⊗◌, ◌⊖◌, residue, Poly, nil, eval, solve}
+use Rattle.integers.proofs.Solver.{Exp, var, con, ◌⊕◌, ◌⊗◌, ◌⊖◌, residue, nil, eval, solve}
 
 pub record V : Type 0 where
   pub x : Exp

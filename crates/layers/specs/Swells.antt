@@ -1,5 +1,5 @@
 -- What the swell layer finds out of a part before it answers: whether every corner has room for it.
-use Rattle.std.specs.Prelude.{◌≡◌, ℕ, ◌+◌, ◌≤◌, List, pos, ◌-ℤ◌, ◌≤ℤ◌, Ok, Err, Result, unsigned_abs}
+use Rattle.std.specs.Prelude.{◌≡◌, ℕ, ◌+◌, ◌≤◌, pos, ◌-ℤ◌, ◌≤ℤ◌, Ok, Err, Result, unsigned_abs}
 use Rattle.std.specs.List.{AllByRecursion}
 use Rattle.refusals.specs.declared.Refusal.{Refusal}
 use Rattle.refusals.specs.Slips.{swelled_too_far}

@@ -1,9 +1,8 @@
 -- What swelling makes of a part: whether it fits, which corner is farthest, and the order of the corners.
-use Rattle.std.specs.Prelude.{◌≡◌, ℕ, ◌+◌, ◌*◌, ◌/◌, ◌%◌, ◌<◌, ◌≤◌, Bool, true, false, cond, List, [], ◌∷◌, ◌++◌, map, length, ℤ, pos, ◌+ℤ◌, ◌-ℤ◌, neg_ℤ, ◌≤ℤ◌, IfOk, Some, None, Ok, Err, Decides, Option, Result, ◌≢◌, unsigned_abs, refl}
-use Rattle.std.proofs.Common.{sym, ap, subst, ◌∙◌, div-add-mod', arith, length-append}
-use Rattle.std.specs.Option.{option_map}
-use Rattle.std.specs.List.{ContainsAt as Has, flat_map, AllByRecursion, slice_get}
-use Rattle.std.proofs.ByRecursion.{All-map, All-weaker, all-has, All-append}
+use Rattle.std.specs.Prelude.{◌≡◌, ℕ, ◌+◌, ◌*◌, ◌/◌, ◌%◌, ◌<◌, ◌≤◌, Bool, true, false, List, [], ◌∷◌, ◌++◌, length, ℤ, pos, ◌+ℤ◌, ◌-ℤ◌, neg_ℤ, ◌≤ℤ◌, IfOk, Some, Ok, Err, Decides, Option, Result, ◌≢◌, unsigned_abs, refl}
+use Rattle.std.proofs.Common.{sym, ap, ◌∙◌, div-add-mod', arith}
+use Rattle.std.specs.List.{flat_map, AllByRecursion, slice_get}
+use Rattle.std.proofs.ByRecursion.{All-map, All-weaker, all-has}
 use Rattle.std.proofs.lemmas.Int.{ints}
 use Rattle.std.proofs.lemmas.Bool.{cond-true, cond-false, cond_both}
 use Rattle.std.proofs.lemmas.Bool.Decides.{Decides-like}
@@ -17,7 +16,7 @@ use Rattle.parts.specs.declared.octant.Octant.{Octant}
 use Rattle.parts.specs.declared.octant.Side.{Side}
 use Rattle.parts.specs.declared.octant.Side.TheVariants.{Low, High}
 use Rattle.parts.specs.declared.corner.PartCorner.{PartCorner}
-use Rattle.parts.specs.Boxes.{taken, vertex, octants, box, towards, side}
+use Rattle.parts.specs.Boxes.{taken, vertex, octants, towards, side}
 use Rattle.parts.specs.Corners.{lies}
 use Rattle.parts.specs.Books.{Part, corner_of}
 use Rattle.parts.specs.Limits.{are_near}

@@ -3,7 +3,7 @@ use Rattle.std.proofs.Common.{◌≡◌, true, false, [], ◌∷◌, ℤ, pos, n
 use lib.Signed.{lt_z}
 use Rattle.std.proofs.lemmas.Int.{ints}
 use Rattle.integers.proofs.Solver.{var, con, neg, ◌⊗◌, ◌⊖◌, solve}
-use Rattle.convex.specs.Simplices.{volume, sign}
+use Rattle.convex.specs.Simplices.{sign}
 
 -- a test of the volume tells its sign
 of_negative : (v : ℤ) → lt_z v (pos 0) ≡ true → sign v ≡ negsuc 0

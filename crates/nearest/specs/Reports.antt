@@ -1,5 +1,5 @@
 -- What is reported of the simplex at which a search ended.
-use Rattle.std.specs.Prelude.{◌≡◌, ℕ, ◌-◌, List, [], ◌∷◌, ◌++◌, length, replicate, ℤ, pos}
+use Rattle.std.specs.Prelude.{◌≡◌, ◌-◌, List, [], ◌∷◌, ◌++◌, length, replicate, ℤ}
 use Rattle.integers.specs.Divisors.{Reduced}
 use Rattle.convex.specs.Fractions.{SquareOf}
 use Rattle.convex.specs.Simplices.{weights}

@@ -1,5 +1,5 @@
 -- What a simplex of the code means, a list of differences of corners; and what it carries.
-use Rattle.std.specs.Prelude.{◌≡◌, ◌⊎◌, List, [], ◌∷◌, ℤ, pos, ◌≤ℤ◌, ◌<ℤ◌}
+use Rattle.std.specs.Prelude.{◌≡◌, ◌⊎◌, List, [], ◌∷◌, ℤ, pos, ◌≤ℤ◌}
 use Rattle.std.specs.List.{ContainsAt as Has, AllByRecursion}
 use Rattle.integers.specs.Points.{Pt, ◌-ᵛ◌}
 use Rattle.convex.specs.Fractions.{Frac, ◌÷◌, NoLonger}

@@ -1,5 +1,5 @@
 -- The farthest corner of a box: the one that is high exactly where the direction's number is above 0.
-use Rattle.std.proofs.Common.{◌≡◌, ℕ, Bool, true, false, cond, List, [], ◌∷◌, map, ℤ, pos, ◌+ℤ◌, ◌*ℤ◌, ◌≤ℤ◌, Some, refl, ap, ◌∙◌, arith, lit<}
+use Rattle.std.proofs.Common.{◌≡◌, ℕ, Bool, true, false, cond, List, [], ◌∷◌, ℤ, pos, ◌+ℤ◌, ◌*ℤ◌, ◌≤ℤ◌, Some, refl, ap, ◌∙◌, arith, lit<}
 use lib.Signed.{lt_z}
 use Rattle.std.specs.Option.{option_map}
 use Rattle.std.specs.List.{ContainsAt as Has, AllByRecursion, slice_get}

@@ -1,6 +1,5 @@
 -- The first best of the candidates seen so far, and one candidate more, under any total order.
 use Rattle.std.proofs.Common.{◌≡◌, Bool, true, false, List, [], ◌∷◌, ◌++◌, sym, refl, ap, ◌∙◌, append_assoc}
-use Rattle.std.specs.List.{AllByRecursion}
 use Rattle.std.proofs.ByRecursion.{All-push, All-weaker}
 use Rattle.search.specs.Firsts.{FirstBest}
 

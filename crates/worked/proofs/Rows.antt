@@ -1,5 +1,5 @@
 -- A test that computes over the whole table, and what it says of a row that passes it.
-use Rattle.std.proofs.Common.{◌≡◌, ℕ, ◌<◌, Bool, true, false, T, eqb, ltb, List, [], ◌∷◌, map, length, ℤ, pos, ◌*ℤ◌, nat_abs, ◌≤ℤ◌, ◌<ℤ◌, sym, refl, ap, ◌∙◌, arith, eqb→eq, ltb→lt}
+use Rattle.std.proofs.Common.{◌≡◌, ℕ, ◌<◌, Bool, true, false, T, eqb, ltb, List, [], ◌∷◌, length, ℤ, pos, ◌*ℤ◌, nat_abs, ◌<ℤ◌, ap, arith, eqb→eq, ltb→lt}
 use lib.Signed.{le_z, lt_z}
 use Rattle.std.specs.List.{AllByRecursion}
 use Rattle.std.proofs.lemmas.Int.{ints}
@@ -8,15 +8,13 @@ use Rattle.integers.specs.Divisors.{Coprime}
 use Rattle.integers.proofs.Order.{≤ℤ_antisym}
 use Rattle.integers.proofs.Overflow.{both, both_left, both_right}
 use Rattle.integers.proofs.Divisors.{weighted, coprime_by}
-use Rattle.convex.specs.Fractions.{Frac, ◌÷◌, Same, SquareOf, ◌less◌}
-use Rattle.convex.specs.Means.{Weights, Difference, Nearest, StoppingTest, sum_of, total}
+use Rattle.convex.specs.Fractions.{Frac, ◌÷◌, SquareOf, ◌less◌}
+use Rattle.convex.specs.Means.{Weights, Nearest, sum_of, total}
 use Rattle.convex.specs.Lowest.{terms, InLowestTerms}
 use Rattle.convex.proofs.Stopping.{nearest_stops}
 use Rattle.convex.proofs.Lowest.{nearest_unique_lowest, square_unique_lowest}
-use Rattle.exact.specs.Space.{at}
-use Rattle.nearest.specs.declared.measurement.Measurement.{Measurement}
-use Rattle.nearest.specs.Measurements.{Reports, reported}
-use Rattle.worked.specs.Table.{Row, Says, Correct, table}
+use Rattle.nearest.specs.Measurements.{reported}
+use Rattle.worked.specs.Table.{Row, Correct, table}
 use Rattle.worked.proofs.Certificates.{Certificate, certificates}
 
 -- ---- tests that compute

@@ -1,8 +1,6 @@
-use Rattle.std.proofs.lemmas.Result.{err_from_is_err_and}
-use Rattle.nearest.specs.Shapes.{Sound}
 use Rattle.nearest.specs.Measurements.{Answers}
 use Rattle.nearest.specs.Searches.{Ended}
-use Rattle.nearest.proofs.Both.{slip, regardless, on}
+use Rattle.nearest.proofs.Both.{on}
 use Rattle.nearest.proofs.Tells.{answers}
 use Rattle.nearest.proofs.measure.measure.Goals as goal
 

@@ -3,7 +3,6 @@ use lib.Signed.{≤ℤ_refl}
 use Rattle.integers.proofs.Solver.{var, ◌⊗◌}
 use Rattle.integers.proofs.Overflow.{fits, kept_is}
 use Rattle.integers.proofs.Environments.{num}
-use Rattle.exact.specs.Space.{at}
 use Rattle.nearest.proofs.Pairs.{size_extent}
 use Rattle.nearest.proofs.Faces.{by_squares, less_≤, not_less_≤}
 use Rattle.nearest.proofs.steps.shorter.Goals as goal

@@ -1,4 +1,4 @@
-use Rattle.std.proofs.Common.{ℕ, Bool, true, false, sym, ◌∙◌, subst}
+use Rattle.std.proofs.Common.{Bool, subst}
 use Rattle.parts.specs.Corners.{lies}
 use Rattle.boxes.proofs.Listings.{Walked, walked_skip, walked_past, walked_here, walked_out, walked_empty}
 use Rattle.boxes.proofs.book.BoxBookPartBook.corner.Goals as goal

@@ -1,4 +1,4 @@
-use Rattle.std.proofs.Common.{◌≡◌, ℤ, Some, sym, ap, ◌∙◌}
+use Rattle.std.proofs.Common.{ap, ◌∙◌}
 use Rattle.integers.specs.Points.{dot}
 use Rattle.integers.proofs.Overflow.{passed}
 use Rattle.exact.specs.Spots.{heading}

@@ -1,5 +1,5 @@
 use Rattle.std.proofs.Common.{◌≡◌, List, [], sym, ap, ◌∙◌, subst, w64}
-use Rattle.integers.specs.Points.{Pt, dot}
+use Rattle.integers.specs.Points.{dot}
 use Rattle.integers.specs.Space.{Near}
 use Rattle.integers.proofs.Solver.{◌⊕◌, ◌⊗◌}
 use Rattle.integers.proofs.Vectors.{pt, dot_e}

@@ -1,4 +1,4 @@
-use Rattle.std.proofs.Common.{◌≡◌, ℕ, [], ◌∷◌, nat_abs, ap, ◌∙◌, subst, subst₂, w64, SFits, rules}
+use Rattle.std.proofs.Common.{ℕ, [], ◌∷◌, nat_abs, ap, ◌∙◌, subst, subst₂, w64, SFits, rules}
 use Rattle.std.proofs.lemmas.Int.{to_z-of_z}
 use Rattle.integers.specs.Divisors.{Greatest}
 use Rattle.integers.proofs.Divisors.{greatest_more}

@@ -1,4 +1,4 @@
-use Rattle.std.proofs.Common.{◌≡◌, Some, None, Ok, sym, ap, ◌∙◌}
+use Rattle.std.proofs.Common.{Some, None, Ok, sym, ap, ◌∙◌}
 use Rattle.std.specs.Option.{option_map}
 use Rattle.parts.specs.Corners.{lies}
 use Rattle.layers.specs.Mirrors.{mirrored_corner}
