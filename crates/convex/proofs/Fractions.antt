@@ -69,7 +69,7 @@ square_unique x p q r s h e f =
     *ℤ_cancel (x.over *ℤ x.over) (*ℤ_pos h h) (prove≡ (dot x.point x.point ∷ x.over ∷ p ∷ q ∷ r ∷ s ∷ []) (w ⊗ w ⊗ (S ⊗ P)) (w ⊗ w ⊗ (Q ⊗ R))
     (by_eq (neg S) (Q ⊗ n) (P ⊗ (w ⊗ w)) e ∷ by_eq Q (S ⊗ n) (R ⊗ (w ⊗ w)) f ∷ []) refl)
 
--- where W k = D-as-D, the square of D / W is k / W
+-- where W k = D·D, the square of D / W is k / W
 pub square_of_level : (x : Frac) (k : ℤ) → x.over *ℤ k ≡ dot x.point x.point → SquareOf x k x.over
 square_of_level x k e =
     let n = var 0 in let w = var 1 in let K = var 2 in
@@ -88,7 +88,7 @@ shorter_by_squares x y p q r s hx hy hq hs e f h =
     *ℤ_cancel< (q *ℤ s) (<ℤ→≤ℤ (*ℤ_pos hq hs)) (prove< (x.over ∷ y.over ∷ dot x.point x.point ∷ dot y.point y.point ∷ p ∷ q ∷ r ∷ s ∷ []) (Q ⊗ S ⊗ (X ⊗ (V ⊗ V))) (Q ⊗ S ⊗ (Y ⊗ (W ⊗ W)))
     (lt (k ⊗ (P ⊗ S)) (k ⊗ (R ⊗ Q)) (*ℤ_mono< (*ℤ_pos (*ℤ_pos hx hx) (*ℤ_pos hy hy)) h) ∷ eq (Q ⊗ W ⊗ W) (S ⊗ Y) (R ⊗ (V ⊗ V)) f ∷ eq (neg (S ⊗ V ⊗ V)) (Q ⊗ X) (P ⊗ (W ⊗ W)) e ∷ []) refl)
 
--- ---- the plane through x = D / W across D: e D-as-D ≤ W D-as-E says that y = E / e is not on its near side
+-- ---- the plane through x = D / W across D: e D·D ≤ W D·E says that y = E / e is not on its near side
 -- that is a fact of the fraction
 pub beyond_same : (x y z : Frac) → pos 0 <ℤ y.over → pos 0 <ℤ z.over → Same y z → (z.over *ℤ dot x.point x.point) ≤ℤ (x.over *ℤ dot x.point z.point) → (y.over *ℤ dot x.point x.point) ≤ℤ (x.over *ℤ dot x.point y.point)
 beyond_same x y z p q s h =

@@ -1,4 +1,4 @@
--- A corner w on the near side of the plane through x = D / W across D, where W D·w < D-as-D, brings a shorter mean in reach.
+-- A corner w on the near side of the plane through x = D / W across D, where W D·w < D·D, brings a shorter mean in reach.
 use Rattle.std.proofs.Common.{◌≡◌, List, [], ◌∷◌, ◌++◌, length, ℤ, pos, ◌+ℤ◌, ◌-ℤ◌, ◌*ℤ◌, ◌≤ℤ◌, ◌<ℤ◌, sym, refl, ◌∙◌}
 use Rattle.std.specs.List.{ContainsAt as Has}
 use Rattle.std.proofs.ByRecursion.{All-weaker, all_has_itself, has_append_left, has_push}

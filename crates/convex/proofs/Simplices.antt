@@ -86,7 +86,7 @@ foot_laws (a ∷ (b ∷ (c ∷ []))) p q = foot₃ a b c
 foot_laws (a ∷ (b ∷ (c ∷ (d ∷ [])))) p q = foot₄ a b c d
 foot_laws (a ∷ (b ∷ (c ∷ (d ∷ (e ∷ ys))))) p q = absurd (omega arith)
 
--- W D·y = D-as-D, for each of the points y
+-- W D·y = D·D, for each of the points y
 pub level_at : (ys : List Pt) (y : Pt) → Independent ys → Has ys y → extent ys *ℤ dot (foot ys) y ≡ dot (foot ys) (foot ys)
 level_at ys y i h = all-has (λ y. extent ys *ℤ dot (foot ys) y ≡ dot (foot ys) (foot ys)) ys y (foot_laws ys i.some i.few).level h
 

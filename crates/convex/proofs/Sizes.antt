@@ -106,7 +106,7 @@ extent≤ S h = at_most (extent S) (size_extent S h)
     at_most x h = omega (arith, ints)
 
 module _ (S : List Pt) (h : AllByRecursion (Near 28) S) where
-  -- D-as-D
+  -- D·D
   pub size_square : nat_abs (dot (foot S) (foot S)) ≤ 1151613028911808512
   size_square = sized (point (foot S) (near-foot S h) []) (dot_e P₀ P₀) 1151613028911808512 tt
 

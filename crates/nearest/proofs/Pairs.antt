@@ -114,7 +114,7 @@ module _ {c : Carrier} (s : Sound c) where
   pub size_product : (w : Pt) → Near 28 w → nat_abs (dot (at c.foot) w) ≤ 52044152832
   size_product w h = size_by (ap (λ x. dot x.point w) s.is) (sizes.size_product (points c.simplex) (all_near (pairs c.simplex)) w h)
 
-  -- D-as-D
+  -- D·D
   pub size_square : nat_abs (dot (at c.foot) (at c.foot)) ≤ 1151613028911808512
   size_square = size_by (ap (λ x. dot x.point x.point) s.is) (sizes.size_square (points c.simplex) (all_near (pairs c.simplex)))
 

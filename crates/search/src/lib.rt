@@ -7,7 +7,7 @@ ghost use Rattle.std.proofs.Common.{rules};
 
 pub mod listed;
 
-// What a candidate is judged by. `noBetter x y` says that x is no better than y: a total order, in which ties are allowed.
+// What a candidate is judged by. `is_no_better x y` says that x is no better than y: a total order, in which ties are allowed.
 pub trait Score {
     ghost is_no_better: { Self → Self → Bool };
 
