@@ -1,5 +1,5 @@
--- Fractions compared by cross products: to be no narrower is transitive.
-use Rattle.std.specs.Prelude.{◌≡◌, ℕ, ◌*◌, ◌<◌, ◌≤◌, true, not, nat_lt}
+-- Fractions compared by cross products: the order is total and transitive.
+use Rattle.std.specs.Prelude.{◌≡◌, ℕ, ◌*◌, ◌<◌, ◌≤◌, true, false, not, nat_lt}
 use Rattle.std.proofs.Common.{mul_right_comm, mul-le-mul_right, le_of_mul-le-mul_right, arith}
 use Rattle.std.proofs.lemmas.Bool.Decides.{nat_tests}
 
@@ -18,3 +18,7 @@ less_not a b h = grind (arith, nat_tests)
 
 pub no_narrower_trans : (p q r s t u : ℕ) → 0 < s → not (nat_lt (p * s) (r * q)) ≡ true → not (nat_lt (r * u) (t * s)) ≡ true → not (nat_lt (p * u) (t * q)) ≡ true
 no_narrower_trans p q r s t u h a b = less_not (p * u) (t * q) (crossed p q r s t u h (not_less (p * s) (r * q) a) (not_less (r * u) (t * s) b))
+
+-- of two gaps one is no narrower than the other
+pub no_narrower_total : (p q r s : ℕ) → not (nat_lt (p * s) (r * q)) ≡ false → not (nat_lt (r * q) (p * s)) ≡ true
+no_narrower_total p q r s h = grind (arith, nat_tests)

@@ -4,8 +4,8 @@ ghost use Rattle.integers.specs.Points.{dot};
 ghost use Rattle.exact.specs.Spots.{spot, heading};
 ghost use Rattle.exact.specs.Terms.{narrower};
 ghost use Rattle.exact.specs.Finds.{Farthest, Narrowest};
-ghost use Rattle.std.proofs.Common.{rules, arith};
-ghost use Rattle.exact.specs.Crossed.{no_narrower_trans};
+ghost use Rattle.exact.specs.Products.{no_larger_total, no_larger_trans};
+ghost use Rattle.exact.specs.Crossed.{no_narrower_total, no_narrower_trans};
 
 use crate::corner::Corner;
 use crate::direction::Direction;
@@ -20,9 +20,9 @@ pub struct Product(pub i64);
 impl Score for Product {
     ghost is_no_better = { λ x y. int_le x.0 y.0 };
 
-    ghost total = { Prim.search rules };
+    ghost total = { λ x y. no_larger_total x.0 y.0 };
 
-    ghost chain = { Prim.search rules };
+    ghost chain = { λ x y z. no_larger_trans x.0 y.0 z.0 };
 
     fn no_better(&self, other: &Product) -> bool {
         self.0 <= other.0
@@ -32,7 +32,7 @@ impl Score for Product {
 impl Score for Gap {
     ghost is_no_better = { λ x y. not (narrower x y) };
 
-    ghost total = { first_of (Prim.search rules, Prim.grind (arith, Self.row.coded.inj)) };
+    ghost total = { λ x y. no_narrower_total x.p x.q y.p y.q };
 
     ghost chain = { λ x y z. no_narrower_trans x.p x.q y.p y.q z.p z.q y.over };
 

@@ -3,7 +3,7 @@
 
 ghost use Rattle.std.specs.Prelude.{◌≡◌, Bool, true, false, List};
 ghost use Rattle.search.specs.Firsts.{Chosen, Step, unscored};
-ghost use Rattle.std.proofs.Common.{rules};
+ghost use Rattle.search.specs.Orders.{unscored-total, unscored-chain};
 
 pub mod listed;
 
@@ -55,9 +55,9 @@ pub struct Scored<T, S> {
 impl<T, S: Score> Score for Scored<T, S> {
     ghost is_no_better = { λ x y. S.Score.is_no_better x.score y.score };
 
-    ghost total = { Prim.search rules };
+    ghost total = { λ x y. S.Score.total x.score y.score };
 
-    ghost chain = { Prim.search rules };
+    ghost chain = { λ x y z. S.Score.chain x.score y.score z.score };
 
     fn no_better(&self, other: &Scored<T, S>) -> bool {
         self.score.no_better(&other.score)
@@ -68,9 +68,9 @@ impl<T, S: Score> Score for Scored<T, S> {
 impl<S: Score> Score for Option<S> {
     ghost is_no_better = { λ x y. unscored S.Score.is_no_better x y };
 
-    ghost total = { Prim.search rules };
+    ghost total = { unscored-total S.Score.is_no_better S.Score.total };
 
-    ghost chain = { Prim.search rules };
+    ghost chain = { unscored-chain S.Score.is_no_better S.Score.chain };
 
     fn no_better(&self, other: &Option<S>) -> bool {
         match (self, other) {
