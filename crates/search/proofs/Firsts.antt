@@ -1,11 +1,32 @@
 -- The first best of the candidates seen so far, and one candidate more, under any total order.
-use Rattle.std.proofs.Common.{◌≡◌, Bool, true, false, List, [], ◌∷◌, ◌++◌, sym, refl, ap, ◌∙◌, append_assoc}
+use Rattle.std.proofs.Common.{◌≡◌, Bool, true, false, not, List, [], ◌∷◌, ◌++◌, sym, refl, ap, ◌∙◌, append_assoc}
+use Rattle.std.specs.declared.cmp.Ordering.{Ordering}
+use Rattle.std.specs.declared.cmp.Ordering.TheVariants.{Less, Equal, Greater}
+use Rattle.std.specs.Ordering.{ordering_reverse, is_gt}
+use Rattle.std.specs.Cmp.{IsTotalOrder}
+use Rattle.std.proofs.lemmas.Cmp.{upto}
 use Rattle.std.proofs.ByRecursion.{All-push, All-weaker}
-use Rattle.search.specs.Firsts.{FirstBest}
+use Rattle.search.specs.Firsts.{FirstBest, no_better}
 
-module _ {X : Type 0} (nb : X → X → Bool)
-    (total : (x y : X) → nb x y ≡ false → nb y x ≡ true)
-    (chain : (x y z : X) → nb x y ≡ true → nb y z ≡ true → nb x z ≡ true) where
+module _ {X : Type 0} (cmp : X → X → Ordering) (order : IsTotalOrder cmp) where
+  abbrev nb : X → X → Bool
+  nb = no_better cmp
+
+  total_at : (r s : Ordering) → r ≡ ordering_reverse s → not (is_gt r) ≡ false → not (is_gt s) ≡ true
+  total_at r Less e h = refl
+  total_at r Equal e h = refl
+  total_at r Greater e h = sym h ∙ ap (λ t. not (is_gt t)) e
+
+  total : (x y : X) → nb x y ≡ false → nb y x ≡ true
+  total x y h = total_at (cmp x y) (cmp y x) (order.antisymm x y) h
+
+  chain : (x y z : X) → nb x y ≡ true → nb y z ≡ true → nb x z ≡ true
+  chain x y z h k = ap not (upto order x y z (unturned (is_gt (cmp x y)) h) (unturned (is_gt (cmp y z)) k))
+    where
+      unturned : (b : Bool) → not b ≡ true → b ≡ false
+      unturned true h = sym h
+      unturned false h = refl
+
   itself : (x : X) → nb x x ≡ true
   itself x = decide (nb x x) refl
     where

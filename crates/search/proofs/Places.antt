@@ -1,18 +1,12 @@
 -- The places of a list, one step after another, and the first best of them by place.
-use Rattle.std.proofs.Common.{◌≡◌, ℕ, zero, suc, ◌+◌, ◌-◌, ◌<◌, ◌≤◌, Bool, true, false, List, [], ◌∷◌, length, get_or, drop, Some, None, Option, sym, refl, ap, ◌∙◌, subst, add-zero, zero-add, arith, length-append}
-use Rattle.std.proofs.lemmas.List.{drop_all, drop_more, get_or_append_left, get_or-append_right}
+use Rattle.std.proofs.Common.{◌≡◌, ℕ, zero, suc, ◌+◌, ◌-◌, ◌<◌, Bool, true, false, List, [], ◌∷◌, length, get_or, Some, None, Option, sym, refl, ap, ◌∙◌, subst, subst₂, add-zero, zero-add, arith, length-append}
+use Rattle.std.proofs.lemmas.List.{get_or_append_left, get_or-append_right}
 use Rattle.search.specs.declared.Scored.{Scored}
 use Rattle.std.proofs.ByRecursion.{All-get_or}
 use Rattle.search.specs.Firsts.{FirstBest, Chosen}
 use Rattle.search.specs.Places.{scored, FirstPlace, Placed}
 
 module _ {X S : Type 0} (f : X → S) where
-  pub scored_end : (xs : List X) (i : ℕ) → length xs ≤ i → scored f i (drop i xs) ≡ []
-  scored_end xs i h = ap (scored f i) (drop_all i xs h)
-
-  pub scored-step : (xs : List X) (i : ℕ) (x : X) (s : S) → i < length xs → x ≡ get_or xs i x → s ≡ f x → scored f i (drop i xs) ≡ record { candidate = i; score = s } ∷ scored f (i + 1) (drop (i + 1) xs)
-  scored-step xs i x s h e v = ap (scored f i) (drop_more xs i x h) ∙ ap (λ t. record { candidate = i; score = t } ∷ scored f (i + 1) (drop (i + 1) xs)) (ap f (sym e) ∙ sym v)
-
   pub get_or-scored : (xs : List X) (i k : ℕ) (d : X) (e : Scored ℕ S) → k < length xs → get_or (scored f i xs) k e ≡ record { candidate = i + k; score = f (get_or xs k d) }
   get_or-scored [] i k d e h = absurd (omega arith)
   get_or-scored (x ∷ xs) i zero d e h = ap (λ (n : ℕ). record { candidate = n; score = f x }) (sym (add-zero i))
@@ -60,7 +54,11 @@ module _ {X S : Type 0} (f : X → S) where
         earlier : (k : ℕ) (d : X) → k < length h.before → get_or h.before k s ≡ record { candidate = 0 + k; score = f (get_or xs k d) }
         earlier k d l = sym (get_or_append_left h.before (s ∷ h.behind) s k l) ∙ ap (λ (l : List (Scored ℕ S)). get_or l k s) (sym h.among) ∙ get_or-scored xs 0 k d s (omega (arith, seat))
 
-    pub placed : (xs : List X) (r : Option (Scored ℕ S)) → Chosen by_score (scored f 0 xs) r → Placed nb f xs r
-    placed [] None h = refl
-    placed (x ∷ xs) None h = let z : ◌≡◌ {A = ℕ} 1 0 = cc (ap length h) in absurd (omega arith)
-    placed xs (Some s) h = first_place xs s h
+    placed_from_start : (xs : List X) (r : Option (Scored ℕ S)) → Chosen by_score (scored f 0 xs) r → Placed nb f xs r
+    placed_from_start [] None h = refl
+    placed_from_start (x ∷ xs) None h = let z : ◌≡◌ {A = ℕ} 1 0 = cc (ap length h) in absurd (omega arith)
+    placed_from_start xs (Some s) h = first_place xs s h
+
+    -- of a walk that starts at place 0 with all of xs to come
+    pub placed : (xs ys : List X) (i : ℕ) (r : Option (Scored ℕ S)) → i ≡ 0 → ys ≡ xs → Chosen by_score (scored f i ys) r → Placed nb f xs r
+    placed xs ys i r start all h = placed_from_start xs r (subst₂ (λ j zs. Chosen by_score (scored f j zs) r) start all h)

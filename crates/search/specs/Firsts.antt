@@ -1,5 +1,7 @@
 -- The first best of a list.
-use Rattle.std.specs.Prelude.{◌≡◌, Bool, true, false, List, [], ◌∷◌, ◌++◌, Some, None, Option}
+use Rattle.std.specs.Prelude.{◌≡◌, Bool, true, false, not, List, [], ◌∷◌, ◌++◌, Some, None, Option}
+use Rattle.std.specs.declared.cmp.Ordering.{Ordering}
+use Rattle.std.specs.Ordering.{is_gt}
 use Rattle.std.specs.List.{AllByRecursion}
 
 -- x stands among xs; each of xs is no better than x; and each before x is worse
@@ -20,8 +22,6 @@ abbrev pub Step : {X : Type 0} → List X → Option X → List X → Type 0
 Step xs None ys = (xs ≡ []) × (ys ≡ [])
 Step xs (Some x) ys = xs ≡ x ∷ ys
 
--- the order of scores with one below all of them, for what has no score
-abbrev pub unscored : {X : Type 0} → (X → X → Bool) → Option X → Option X → Bool
-unscored no_better None y = true
-unscored no_better (Some x) None = false
-unscored no_better (Some x) (Some y) = no_better x y
+-- x is not above y
+abbrev pub no_better : {X : Type 0} → (X → X → Ordering) → X → X → Bool
+no_better cmp x y = not (is_gt (cmp x y))

@@ -1,27 +1,15 @@
 // The one first-best search: the first candidate that none beats, for any source of candidates and any score with a total order.
 #![tactic(auto)]
 
-ghost use Rattle.std.specs.Prelude.{◌≡◌, Bool, true, false, List};
-ghost use Rattle.search.specs.Firsts.{Chosen, Step, unscored};
-ghost use Rattle.search.specs.Orders.{unscored-total, unscored-chain};
+ghost use Rattle.std.specs.Prelude.{◌≡◌, List};
+ghost use Rattle.search.specs.Firsts.{Chosen, Step, no_better};
 
 pub mod listed;
 
-// What a candidate is judged by. `is_no_better x y` says that x is no better than y: a total order, in which ties are allowed.
-pub trait Score {
-    ghost is_no_better: { Self → Self → Bool };
-
-    fn no_better(&self, other: &Self) -> bool
-        ensures { result ≡ is_no_better self.now other.now };
-
-    ghost total: { (x y : Self) → is_no_better x y ≡ false → is_no_better y x ≡ true };
-
-    ghost chain: { (x y z : Self) → is_no_better x y ≡ true → is_no_better y z ≡ true → is_no_better x z ≡ true };
-}
-
-// A source of candidates, walked from the first to the last; `rest` are those still to come.
+// A source of candidates, walked from the first to the last; `rest` are those still to come. Of two candidates the greater is the better.
+// It is no `Iterator`: a search over any of those has to require that it may be called and that it ends, and a public call here requires nothing.
 pub trait Candidates {
-    type Item: Score + Drop;
+    type Item: Ord + Drop;
 
     ghost rest: { Self → List Self.Item };
 
@@ -31,14 +19,11 @@ pub trait Candidates {
 
 // The first candidate that none beats: nothing exactly when there is no candidate.
 pub fn first_best<C: Candidates + Drop>(mut candidates: C) -> Option<C::Item>
-    ensures { Chosen C.Item.Score.is_no_better (C.Candidates.rest candidates) result }
+    ensures { Chosen (no_better C.Item.Ord.cmp) (C.Candidates.rest candidates) result }
 {
-    let Some(mut best) = candidates.next() else {
-        return None;
-    };
+    let mut best = candidates.next()?;
     while let Some(next) = candidates.next() {
-        let kept = next.no_better(&best);
-        if !kept {
+        if next > best {
             best = next;
         }
     }
@@ -47,36 +32,9 @@ pub fn first_best<C: Candidates + Drop>(mut candidates: C) -> Option<C::Item>
 
 // A candidate with its score, by which alone it is judged.
 #[derive(Clone, Copy, Drop)]
+#[derive_where(PartialEq, Eq, PartialOrd, Ord; S)]
 pub struct Scored<T, S> {
+    #[derive_where(skip(EqHashOrd))]
     pub candidate: T,
     pub score: S,
-}
-
-impl<T, S: Score> Score for Scored<T, S> {
-    ghost is_no_better = { λ x y. S.Score.is_no_better x.score y.score };
-
-    ghost total = { λ x y. S.Score.total x.score y.score };
-
-    ghost chain = { λ x y z. S.Score.chain x.score y.score z.score };
-
-    fn no_better(&self, other: &Scored<T, S>) -> bool {
-        self.score.no_better(&other.score)
-    }
-}
-
-// A candidate without a score is no better than any.
-impl<S: Score> Score for Option<S> {
-    ghost is_no_better = { λ x y. unscored S.Score.is_no_better x y };
-
-    ghost total = { unscored-total S.Score.is_no_better S.Score.total };
-
-    ghost chain = { unscored-chain S.Score.is_no_better S.Score.chain };
-
-    fn no_better(&self, other: &Option<S>) -> bool {
-        match (self, other) {
-            (None, _) => true,
-            (Some(_), None) => false,
-            (Some(x), Some(y)) => x.no_better(y),
-        }
-    }
 }

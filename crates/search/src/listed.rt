@@ -1,12 +1,18 @@
 // The first best of a list: its places are the candidates, so that nothing of the list is copied.
-ghost use Rattle.std.specs.Prelude.{◌≡◌, List, drop};
+ghost use Rattle.std.specs.Prelude.{◌≡◌, ◌+◌, ◌<◌, ◌^◌, length};
+ghost use Rattle.std.specs.Iterator.Adapters.{enumerate_source, enumerate_count};
+ghost use Rattle.std.specs.Slice.Iter.{iter_rest};
+ghost use Rattle.search.specs.Firsts.{no_better};
 ghost use Rattle.search.specs.Places.{scored, Placed};
 
-use crate::{Candidates, Score, Scored, first_best};
+use crate::{Candidates, Scored, first_best};
+use std::iter::Enumerate;
+use std::slice::Iter;
 
-// How an element of a list is scored.
+// How an element of a list is scored; the greater score is the better.
+// It is no closure: a search by one has to require that it may be called, and a public call here requires nothing.
 pub trait Scoring<T> {
-    type Score: Score + Drop;
+    type Score: Ord + Drop;
 
     ghost score_of: { Self → T → Self.Score };
 
@@ -14,30 +20,24 @@ pub trait Scoring<T> {
         ensures { result ≡ score_of self.now element.now };
 }
 
-// The places of a list from `at` on, each with the score of its element.
+// The places of a list that are still to come, each with the score of its element.
 #[derive(Drop)]
-pub struct Listed<'a, T, F> {
-    elements: &'a [T],
+struct Listed<'a, T, F> {
+    places: Enumerate<Iter<'a, T>>,
     scoring: F,
-    at: usize,
+    ghost fits: { enumerate_count places + length (iter_rest (enumerate_source places)) < 2 ^ 64 },
 }
 
 impl<'a, T, F: Scoring<T> + Drop> Candidates for Listed<'a, T, F> {
     type Item = Scored<usize, F::Score>;
 
-    ghost rest = { λ s. scored (F.Scoring.score_of s.scoring) s.at (drop s.at s.elements.now) };
+    ghost rest = { λ s. scored (F.Scoring.score_of s.scoring) (enumerate_count s.places) (iter_rest (enumerate_source s.places)) };
 
     fn next(&mut self) -> Option<Scored<usize, F::Score>> {
-        let elements = self.elements;
-        let place = self.at;
-        if place >= elements.len() {
-            return None;
-        }
-        let score = self.scoring.score(&elements[place]);
-        self.at = place + 1;
+        let (candidate, element) = self.places.next()?;
         Some(Scored {
-            candidate: place,
-            score,
+            candidate,
+            score: self.scoring.score(element),
         })
     }
 }
@@ -47,11 +47,8 @@ pub fn first_best_of<T, F: Scoring<T> + Drop>(
     elements: &[T],
     scoring: F,
 ) -> Option<Scored<usize, F::Score>>
-    ensures { Placed F.Score.Score.is_no_better (F.Scoring.score_of scoring) elements.now result }
+    ensures { Placed (no_better F.Score.Ord.cmp) (F.Scoring.score_of scoring) elements.now result }
 {
-    first_best(Listed {
-        elements,
-        scoring,
-        at: 0,
-    })
+    let places = elements.iter().enumerate();
+    first_best(Listed { places, scoring })
 }
