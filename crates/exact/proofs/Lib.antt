@@ -1,1 +1,3 @@
+pub mod Coordinates
 pub mod Quotients
+pub mod Ranks

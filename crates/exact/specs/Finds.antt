@@ -1,11 +1,10 @@
 -- What the two searches answer, in terms of corners and of gaps.
 use Rattle.std.specs.Prelude.{ℕ, not, List, Option, int_le}
 use Rattle.integers.specs.Points.{Pt, dot}
-use Rattle.exact.specs.declared.corner.Corner.{Corner}
 use Rattle.exact.specs.declared.gap.Gap.{Gap}
 use Rattle.exact.specs.declared.scores.Product.{Product}
 use Rattle.search.specs.declared.Scored.{Scored}
-use Rattle.exact.specs.Spots.{spot}
+use Rattle.exact.specs.Spots.{Corner, spot}
 use Rattle.exact.specs.Terms.{narrower}
 use Rattle.search.specs.Places.{Placed}
 

@@ -3,4 +3,3 @@ pub mod Spots
 pub mod Terms
 pub mod Finds
 pub mod Crossed
-pub mod Products

@@ -1,5 +1,7 @@
 -- The numbers of fractions and gaps, their bounds, and the order of gaps.
 use Rattle.std.specs.Prelude.{◌≡◌, ℕ, ◌*◌, ◌<◌, ◌≤◌, Bool, List, [], ◌∷◌, ℤ, pos, ◌<ℤ◌, Some, None, Option, nat_lt}
+use Rattle.std.specs.declared.cmp.Ordering.{Ordering}
+use Rattle.std.specs.Ordering.{nat_cmp}
 use Rattle.exact.specs.declared.point.Point.{Point}
 use Rattle.exact.specs.declared.fraction.Fraction.{Fraction}
 use Rattle.exact.specs.declared.gap.Gap.{Gap}
@@ -15,6 +17,10 @@ parts g = pos g.p ∷ pos g.q ∷ []
 -- as fractions g < h: by cross products
 abbrev pub narrower : Gap → Gap → Bool
 narrower g h = nat_lt (g.p * h.q) (h.p * g.q)
+
+-- how g and h compare as fractions
+abbrev pub crossed : Gap → Gap → Ordering
+crossed g h = nat_cmp (g.p * h.q) (h.p * g.q)
 
 -- the point over the number exactly when the number is at least 1
 abbrev pub OverPositive : Point → ℤ → Option Fraction → Type 0

@@ -1,11 +1,14 @@
 // Fractions and gaps made from their numbers, and the order of gaps.
-ghost use Rattle.std.specs.Prelude.{◌≡◌, ◌<◌, ◌≤◌, pos, ◌<ℤ◌};
-ghost use Rattle.std.specs.Option.{option_map};
-ghost use Rattle.exact.specs.Terms.{narrower, OverPositive, InBounds};
+ghost use Rattle.std.specs.Prelude.{◌≡◌, refl};
+ghost use Rattle.std.specs.Ordering.{as_partial_cmp, eq_by_cmp};
+ghost use Rattle.std.specs.Cmp.{po, partial_equiv_from_equiv, eq_by_cmp_equiv};
+ghost use Rattle.exact.specs.Terms.{crossed, OverPositive, InBounds};
+ghost use Rattle.exact.specs.Crossed.{crossed_total};
 
 use crate::fraction::Fraction;
 use crate::gap::Gap;
 use crate::point::Point;
+use std::cmp::Ordering;
 
 impl Fraction {
     // The point over a number, or nothing where the number is below 1.
@@ -13,10 +16,9 @@ impl Fraction {
         ensures { OverPositive point over result }
     {
         if over < 1 {
-            None
-        } else {
-            Some(Fraction { point, over })
+            return None;
         }
+        Some(Fraction { point, over })
     }
 }
 
@@ -30,11 +32,43 @@ impl Gap {
         }
         Some(Gap { p, q })
     }
+}
 
-    // Whether this gap is narrower than another, as fractions: by cross products.
-    pub fn is_narrower(self, other: Gap) -> bool
-        ensures { result ≡ narrower self other }
-    {
-        self.p * other.q < other.p * self.q
+// Gaps are compared as fractions, by cross products: 1/2 and 2/4 are equal.
+impl Ord for Gap {
+    ghost cmp = { crossed };
+
+    ghost total = { crossed_total };
+
+    ghost matches_partial_cmp = { λ x y. refl };
+
+    ghost matches_eq = { λ x y. refl };
+
+    fn cmp(&self, other: &Gap) -> Ordering {
+        (self.p * other.q).cmp(&(other.p * self.q))
     }
+}
+
+impl PartialOrd for Gap {
+    ghost partial_cmp = { as_partial_cmp crossed };
+
+    ghost laws = { po crossed_total (λ x y. refl) };
+
+    fn partial_cmp(&self, other: &Gap) -> Option<Ordering> {
+        Some(self.cmp(other))
+    }
+}
+
+impl PartialEq for Gap {
+    ghost eq = { eq_by_cmp crossed };
+
+    ghost laws = { partial_equiv_from_equiv (eq_by_cmp_equiv crossed_total) };
+
+    fn eq(&self, other: &Gap) -> bool {
+        self.cmp(other).is_eq()
+    }
+}
+
+impl Eq for Gap {
+    ghost laws = { eq_by_cmp_equiv crossed_total };
 }

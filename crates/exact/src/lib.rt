@@ -10,3 +10,4 @@ pub mod lowest;
 pub mod point;
 pub mod products;
 pub mod scores;
+pub mod too_far;

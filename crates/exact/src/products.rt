@@ -1,13 +1,15 @@
-// Making corners and directions from points, and their products and squares.
-ghost use Rattle.std.specs.Prelude.{◌≡◌, MatchBool};
-ghost use Rattle.std.specs.Option.{option_map};
-ghost use Rattle.integers.specs.Points.{dot};
+// Making corners and directions from points, and their sums, products and squares.
+ghost use Rattle.std.specs.Prelude.{◌≡◌, MatchBool, min};
+ghost use Rattle.integers.specs.Points.{dot, ◌+ᵛ◌};
 ghost use Rattle.exact.specs.Space.{at, Within};
-ghost use Rattle.exact.specs.Spots.{spot, heading, Kept};
+ghost use Rattle.exact.specs.Spots.{spot, heading, Reached, Headed};
 
-use crate::corner::Corner;
+use crate::corner::{Corner, PartCorner, Shift, Spot};
 use crate::direction::Direction;
 use crate::point::Point;
+use crate::too_far::TooFar;
+use refusals::{Layer, Reason, Refusal};
+use std::ops::Add;
 
 impl Point {
     // Whether each coordinate is within ±limit.
@@ -20,62 +22,102 @@ impl Point {
     }
 }
 
-impl Corner {
-    // The corner at a point, or nothing where a coordinate is beyond ±14.
-    pub fn new(p: Point) -> Option<Corner>
-        ensures { Kept 14 (at p) (option_map spot result) }
-    {
-        if p.is_within(14) {
-            Some(Corner {
-                x: p.x as i8,
-                y: p.y as i8,
-                z: p.z as i8,
-            })
-        } else {
-            None
-        }
-    }
+// The corner at a point, where no coordinate is beyond ±REACH (a byte holds at most ±127).
+impl<const REACH: u8> TryFrom<Point> for Spot<REACH> {
+    type Error = TooFar;
 
-    // The point where the corner lies.
-    pub fn point(self) -> Point
-        ensures { at result ≡ spot self }
-    {
+    ghost try_from_gives = { λ p r. Reached (min REACH 127) (at p) r };
+
+    fn try_from(p: Point) -> Result<Spot<REACH>, TooFar> {
+        if !p.is_within(u64::from(REACH.min(127))) {
+            return Err(TooFar { reach: REACH });
+        }
+        Ok(Spot {
+            x: p.x as i8,
+            y: p.y as i8,
+            z: p.z as i8,
+        })
+    }
+}
+
+// The point where a corner lies.
+impl<const REACH: u8> From<Spot<REACH>> for Point {
+    ghost from_gives = { λ c p. at p ≡ spot c };
+
+    fn from(c: Spot<REACH>) -> Point {
         Point {
-            x: self.x as i64,
-            y: self.y as i64,
-            z: self.z as i64,
+            x: i64::from(c.x),
+            y: i64::from(c.y),
+            z: i64::from(c.z),
         }
     }
+}
 
+// The corner of a body that lies where a part's corner does.
+impl From<PartCorner> for Corner {
+    ghost from_gives = { λ c d. spot d ≡ spot c };
+
+    fn from(c: PartCorner) -> Corner {
+        Spot {
+            x: c.x,
+            y: c.y,
+            z: c.z,
+        }
+    }
+}
+
+// A part's corner, moved.
+impl Add<Shift> for PartCorner {
+    type Output = Corner;
+
+    ghost add_gives = { λ c m d. spot d ≡ spot c +ᵛ spot m };
+
+    fn add(self, by: Shift) -> Corner {
+        Spot {
+            x: self.x + by.x,
+            y: self.y + by.y,
+            z: self.z + by.z,
+        }
+    }
+}
+
+impl Corner {
     // The square of the corner: its product with itself.
     pub fn square(self) -> i64
         ensures { result ≡ dot (spot self) (spot self) }
     {
         let along = Direction {
-            along: self.point(),
+            along: Point::from(self),
         };
         along.product(self)
     }
 }
 
-impl Direction {
-    // The direction of three numbers, or nothing where one is beyond ±2,000,000,000.
-    pub fn new(p: Point) -> Option<Direction>
-        ensures { Kept 2000000000 (at p) (option_map heading result) }
-    {
-        if p.is_within(2000000000) {
-            Some(Direction { along: p })
-        } else {
-            None
-        }
-    }
+// The direction of three numbers, refused where one is beyond ±2,000,000,000.
+impl TryFrom<Point> for Direction {
+    type Error = Refusal;
 
+    ghost try_from_gives = { λ p r. Headed (at p) r };
+
+    fn try_from(p: Point) -> Result<Direction, Refusal> {
+        if !p.is_within(2000000000) {
+            return Err(Refusal {
+                reason: Reason::DirectionTooLong,
+                layer: Layer::Call,
+                place: 0,
+            });
+        }
+        Ok(Direction { along: p })
+    }
+}
+
+impl Direction {
     // The product of the direction and a corner: the three products of like coordinates, added.
     pub fn product(self, corner: Corner) -> i64
         ensures { result ≡ dot (heading self) (spot corner) }
     {
         let d = self.along;
-        let p = corner.point();
+        let p = Point::from(corner);
         d.x * p.x + d.y * p.y + d.z * p.z
     }
 }

@@ -42,20 +42,20 @@ pub struct Refusal {
     pub place: u32,
 }
 
-impl Reason {
-    // The number that a slip prints for the reason.
-    pub fn number(self) -> u8
-        ensures { result ≡ reason_number self }
-    {
-        self as u8
+// The number that a slip prints for a reason.
+impl From<Reason> for u8 {
+    ghost from_gives = { λ reason number. number ≡ reason_number reason };
+
+    fn from(reason: Reason) -> u8 {
+        reason as u8
     }
 }
 
-impl Layer {
-    // The number that a slip prints for the layer.
-    pub fn number(self) -> u8
-        ensures { result ≡ layer_number self }
-    {
-        self as u8
+// The number that a slip prints for a layer.
+impl From<Layer> for u8 {
+    ghost from_gives = { λ layer number. number ≡ layer_number layer };
+
+    fn from(layer: Layer) -> u8 {
+        layer as u8
     }
 }
