@@ -17,9 +17,8 @@ use Rattle.search.specs.declared.Scored.{Scored}
 use Rattle.search.specs.Firsts.{unscored}
 use Rattle.search.specs.Places.{FirstPlace}
 use Rattle.parts.specs.declared.octant.Octant.{Octant}
-use Rattle.parts.specs.declared.corner.PartCorner.{PartCorner}
+use Rattle.exact.specs.Spots.{PartCorner, spot}
 use Rattle.parts.specs.Boxes.{vertex, towards}
-use Rattle.parts.specs.Corners.{lies}
 use Rattle.parts.proofs.Boxes.{box-farthest, box_has}
 use Rattle.parts.proofs.Blocks.{all_joined, has_joined, has_first, has_later}
 use Rattle.boxes.specs.declared.entry.Entry.{Entry}
@@ -83,33 +82,33 @@ better = unscored (λ (x y : Product). le_z x.0 y.0)
 no_larger : (x y : ℤ) → le_z x y ≡ true → x ≤ℤ y
 no_larger x y h = omega (arith, ints)
 
-found_some : (s : Refusal) (ps : List Pt) (d : Pt) (c : PartCorner) → Farthest ps d (lies c) → Found lies (corners_or s ps) d (Ok c)
+found_some : (s : Refusal) (ps : List Pt) (d : Pt) (c : PartCorner) → Farthest ps d (spot c) → Found spot (corners_or s ps) d (Ok c)
 found_some s [] d c h = let (k, l, e) = h.one in absurd (omega arith)
 found_some s (p ∷ ps) d c h = h
 
 -- of the entry whose farthest corner none exceeds
-pub boxed-found : (n : ℕ) (d : Pt) (es : List Entry) (e : Entry) (o : Octant) (s : Scored ℕ (Option Product)) (c : PartCorner) → FirstPlace better (reach_of n d) es s → o ≡ towards d → Some (lies c) ≡ vertex_for_part n (get_or es s.candidate e) o → Found lies (boxed es n) d (Ok c)
+pub boxed-found : (n : ℕ) (d : Pt) (es : List Entry) (e : Entry) (o : Octant) (s : Scored ℕ (Option Product)) (c : PartCorner) → FirstPlace better (reach_of n d) es s → o ≡ towards d → Some (spot c) ≡ vertex_for_part n (get_or es s.candidate e) o → Found spot (boxed es n) d (Ok c)
 boxed-found n d es e o s c h way v =
     let best = get_or es s.candidate e in
-    let (t, is) = vertex_counts n best o (lies c) v in
-    let at-best : s.score ≡ Some (record { 0 = dot d (lies c) }) = h.score_is e ∙ sym (reach-some n d best o (lies c) (dot d (lies c)) way v refl) in
+    let (t, is) = vertex_counts n best o (spot c) v in
+    let at-best : s.score ≡ Some (record { 0 = dot d (spot c) }) = h.score_is e ∙ sym (reach-some n d best o (spot c) (dot d (spot c)) way v refl) in
     found_some (part_missing BoxBook n) (listed n es) d c (record {
-      one = has_joined corners_of (filter (counts_for_part n) es) best (lies c) (kept_has (counts_for_part n) es best t (has_get_or es s.candidate e h.inside)) (subst (λ p. Has (corners_of best) p) (sym is) (box_has (at best.low) (at best.high) o));
-      most = all_joined (λ p. dot d p ≤ℤ dot d (lies c)) corners_of (filter (counts_for_part n) es)
-          (kept-all (counts_for_part n) (λ x. AllByRecursion (λ p. dot d p ≤ℤ dot d (lies c)) (corners_of x)) es
-          (All-from_get_or _ es e (λ k l u. All-weaker (λ p. dot d p ≤ℤ dot d (vertex_of (get_or es k e) (towards d))) (λ p. dot d p ≤ℤ dot d (lies c))
-          (λ p m. ≤ℤ_trans m (no_larger (dot d (vertex_of (get_or es k e) (towards d))) (dot d (lies c)) (judged (get_or es k e) u (subst (λ v. better (reach_of n d (get_or es k e)) v ≡ true) at-best (h.best k e l)))))
+      one = has_joined corners_of (filter (counts_for_part n) es) best (spot c) (kept_has (counts_for_part n) es best t (has_get_or es s.candidate e h.inside)) (subst (λ p. Has (corners_of best) p) (sym is) (box_has (at best.low) (at best.high) o));
+      most = all_joined (λ p. dot d p ≤ℤ dot d (spot c)) corners_of (filter (counts_for_part n) es)
+          (kept-all (counts_for_part n) (λ x. AllByRecursion (λ p. dot d p ≤ℤ dot d (spot c)) (corners_of x)) es
+          (All-from_get_or _ es e (λ k l u. All-weaker (λ p. dot d p ≤ℤ dot d (vertex_of (get_or es k e) (towards d))) (λ p. dot d p ≤ℤ dot d (spot c))
+          (λ p m. ≤ℤ_trans m (no_larger (dot d (vertex_of (get_or es k e) (towards d))) (dot d (spot c)) (judged (get_or es k e) u (subst (λ v. better (reach_of n d (get_or es k e)) v ≡ true) at-best (h.best k e l)))))
           (corners_of (get_or es k e)) (box-farthest d (at (get_or es k e).low) (at (get_or es k e).high) (counted n (get_or es k e) u).under))));
     })
   where
-    judged : (x : Entry) → counts_for_part n x ≡ true → better (reach_of n d x) (Some (record { 0 = dot d (lies c) })) ≡ true → le_z (dot d (vertex_of x (towards d))) (dot d (lies c)) ≡ true
-    judged x t b = subst (λ v. better v (Some (record { 0 = dot d (lies c) })) ≡ true) (cond-true (counts_for_part n x) (Some (record { 0 = dot d (vertex_of x (towards d)) })) None t) b
+    judged : (x : Entry) → counts_for_part n x ≡ true → better (reach_of n d x) (Some (record { 0 = dot d (spot c) })) ≡ true → le_z (dot d (vertex_of x (towards d))) (dot d (spot c)) ≡ true
+    judged x t b = subst (λ v. better v (Some (record { 0 = dot d (spot c) })) ≡ true) (cond-true (counts_for_part n x) (Some (record { 0 = dot d (vertex_of x (towards d)) })) None t) b
 
 -- where even the best entry does not count, none does
-pub boxed_none : (n : ℕ) (d : Pt) (es : List Entry) (e : Entry) (o : Octant) (s : Scored ℕ (Option Product)) (r : Refusal) → FirstPlace better (reach_of n d) es s → None ≡ vertex_for_part n (get_or es s.candidate e) o → r ≡ part_missing BoxBook n → Found lies (boxed es n) d (Err r)
+pub boxed_none : (n : ℕ) (d : Pt) (es : List Entry) (e : Entry) (o : Octant) (s : Scored ℕ (Option Product)) (r : Refusal) → FirstPlace better (reach_of n d) es s → None ≡ vertex_for_part n (get_or es s.candidate e) o → r ≡ part_missing BoxBook n → Found spot (boxed es n) d (Err r)
 boxed_none n d es e o s r h v is =
     let score_is : s.score ≡ None = h.score_is e ∙ sym (reach_none n d (get_or es s.candidate e) o v) in
-    subst (λ xs. Found lies (corners_or (part_missing BoxBook n) (flat_map corners_of xs)) d (Err r))
+    subst (λ xs. Found spot (corners_or (part_missing BoxBook n) (flat_map corners_of xs)) d (Err r))
     (sym (kept_none (counts_for_part n) es (All-from_get_or _ es e (λ k l. skipped (get_or es k e) (subst (λ v. better (reach_of n d (get_or es k e)) v ≡ true) score_is (h.best k e l)))))) is
   where
     skipped : (x : Entry) → better (reach_of n d x) None ≡ true → counts_for_part n x ≡ false

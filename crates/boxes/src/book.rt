@@ -9,7 +9,7 @@ use crate::entry::Entry;
 use crate::reach::Reach;
 use exact::direction::Direction;
 use parts::book::{Meaning, PartBook};
-use parts::corner::PartCorner;
+use exact::corner::PartCorner;
 use parts::octant::Octant;
 use refusals::{Layer, Reason, Refusal};
 use search::listed::first_best_of;

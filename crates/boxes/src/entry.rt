@@ -2,12 +2,12 @@
 ghost use Rattle.std.specs.Prelude.{◌≡◌, if◌then◌else◌, Some, None};
 ghost use Rattle.std.specs.Option.{option_map};
 ghost use Rattle.parts.specs.Boxes.{taken, vertex};
-ghost use Rattle.parts.specs.Corners.{lies};
+ghost use Rattle.exact.specs.Spots.{spot};
 ghost use Rattle.exact.specs.Space.{at};
 ghost use Rattle.boxes.specs.Entries.{each_at_most, counts_for_part};
 
 use exact::point::Point;
-use parts::corner::PartCorner;
+use exact::corner::PartCorner;
 use parts::octant::{Octant, Side};
 
 // An entry of a box book: any numbers may stand in it.
@@ -58,7 +58,7 @@ impl Entry {
 
     // A corner of the box, or nothing where the entry does not count for the part.
     pub fn vertex_for(self, part: u16, octant: Octant) -> Option<PartCorner>
-        ensures { option_map lies result ≡ (if counts_for_part part self then Some (vertex (at self.low) (at self.high) octant) else None) }
+        ensures { option_map spot result ≡ (if counts_for_part part self then Some (vertex (at self.low) (at self.high) octant) else None) }
     {
         if self.counts_for(part) {
             PartCorner::new(vertex_between(self.low, self.high, octant))

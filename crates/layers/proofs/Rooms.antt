@@ -9,8 +9,7 @@ use Rattle.refusals.specs.Slips.{swelled_too_far}
 use Rattle.integers.specs.Points.{Pt, dot}
 use Rattle.integers.proofs.Order.{≤ℤ_trans}
 use Rattle.convex.specs.Hulls.{Found}
-use Rattle.parts.specs.declared.corner.PartCorner.{PartCorner}
-use Rattle.parts.specs.Corners.{lies}
+use Rattle.exact.specs.Spots.{PartCorner, spot}
 use Rattle.parts.specs.Books.{Part}
 use Rattle.layers.specs.Swells.{Inside, Roomy, Cleared}
 
@@ -21,12 +20,12 @@ not_beyond : (a k : ℤ) → lt_z a k ≡ false → k ≤ℤ a
 not_beyond a k e = omega (arith, ints)
 
 -- a farthest corner that lies beyond has no room; one that does not gives room to all
-pub too_far : (m n : ℕ) (d : Pt) (M : Part) (c : PartCorner) → lt_z (pos 5 -ℤ pos m) (dot d (lies c)) ≡ true → Found lies M d (Ok c) → Cleared {X = Unit {0}} (Inside m d) n M (Err (swelled_too_far n))
-too_far m n d (Ok ps) c e f = (refl, λ h. beyond (pos 5 -ℤ pos m) (dot d (lies c)) e (all-has (Inside m d) ps (lies c) h f.one))
+pub too_far : (m n : ℕ) (d : Pt) (M : Part) (c : PartCorner) → lt_z (pos 5 -ℤ pos m) (dot d (spot c)) ≡ true → Found spot M d (Ok c) → Cleared {X = Unit {0}} (Inside m d) n M (Err (swelled_too_far n))
+too_far m n d (Ok ps) c e f = (refl, λ h. beyond (pos 5 -ℤ pos m) (dot d (spot c)) e (all-has (Inside m d) ps (spot c) h f.one))
 too_far m n d (Err s) c e f = absurd f
 
-pub has_room : (m n : ℕ) (d : Pt) (M : Part) (c : PartCorner) → lt_z (pos 5 -ℤ pos m) (dot d (lies c)) ≡ false → Found lies M d (Ok c) → Cleared {X = Unit {0}} (Inside m d) n M (Ok tt)
-has_room m n d (Ok ps) c e f = All-weaker (λ p. dot d p ≤ℤ dot d (lies c)) (Inside m d) (λ p l. ≤ℤ_trans l (not_beyond (pos 5 -ℤ pos m) (dot d (lies c)) e)) ps f.most
+pub has_room : (m n : ℕ) (d : Pt) (M : Part) (c : PartCorner) → lt_z (pos 5 -ℤ pos m) (dot d (spot c)) ≡ false → Found spot M d (Ok c) → Cleared {X = Unit {0}} (Inside m d) n M (Ok tt)
+has_room m n d (Ok ps) c e f = All-weaker (λ p. dot d p ≤ℤ dot d (spot c)) (Inside m d) (λ p l. ≤ℤ_trans l (not_beyond (pos 5 -ℤ pos m) (dot d (spot c)) e)) ps f.most
 has_room m n d (Err s) c e f = absurd f
 
 -- ---- along the six axes

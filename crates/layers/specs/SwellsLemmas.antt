@@ -15,9 +15,8 @@ use Rattle.convex.specs.Hulls.{Farthest, Found}
 use Rattle.parts.specs.declared.octant.Octant.{Octant}
 use Rattle.parts.specs.declared.octant.Side.{Side}
 use Rattle.parts.specs.declared.octant.Side.TheVariants.{Low, High}
-use Rattle.parts.specs.declared.corner.PartCorner.{PartCorner}
+use Rattle.exact.specs.Spots.{PartCorner, spot}
 use Rattle.parts.specs.Boxes.{taken, vertex, octants, towards, side}
-use Rattle.parts.specs.Corners.{lies}
 use Rattle.parts.specs.Books.{Part, corner_of}
 use Rattle.parts.specs.Limits.{are_near}
 use Rattle.parts.proofs.Limits.{decides_all-near}
@@ -119,7 +118,7 @@ widened-farthest m d p ps h = record {
 
 -- ---- what the layer answers
 -- the slip of a part without room
-pub swelled-refused : (m n : ℕ) (d : Pt) (M : Part) (s : Refusal) → Cleared {X = Unit {0}} (Roomy m) n M (Err s) → Found lies (swelled m n M) d (Err s)
+pub swelled-refused : (m n : ℕ) (d : Pt) (M : Part) (s : Refusal) → Cleared {X = Unit {0}} (Roomy m) n M (Err s) → Found spot (swelled m n M) d (Err s)
 swelled-refused m n d (Ok ps) s (e, h) = rw (swelled_not m n ps h) e
 swelled-refused m n d (Err t) s e = cc
 
@@ -127,13 +126,13 @@ refused : (s : Refusal) → ◌≡◌ {A = Result (Unit {0}) Refusal} (Ok tt) (E
 refused s e = let z : ◌≡◌ {A = ℕ} 0 1 = cc in omega arith
 
 -- a farthest corner of a part with room has room
-pub found-roomy : (m n : ℕ) (d : Pt) (M : Part) (c : PartCorner) → Cleared {X = Unit {0}} (Roomy m) n M (Ok tt) → Found lies M d (Ok c) → Roomy m (lies c)
-found-roomy m n d (Ok ps) c h f = all-has (Roomy m) ps (lies c) h f.one
+pub found-roomy : (m n : ℕ) (d : Pt) (M : Part) (c : PartCorner) → Cleared {X = Unit {0}} (Roomy m) n M (Ok tt) → Found spot M d (Ok c) → Roomy m (spot c)
+found-roomy m n d (Ok ps) c h f = all-has (Roomy m) ps (spot c) h f.one
 found-roomy m n d (Err s) c h f = absurd f
 
 -- and its corner towards d is a farthest one
-pub swelled-found : (m n : ℕ) (d : Pt) (M : Part) (c r : PartCorner) (o : Octant) → o ≡ towards d → lies r ≡ vertex (lies c -ᵛ cube m) (lies c +ᵛ cube m) o → Cleared {X = Unit {0}} (Roomy m) n M (Ok tt) → Found lies M d (Ok c) → Found lies (swelled m n M) d (Ok r)
-swelled-found m n d (Ok ps) c r o way is h f = rw (swelled-fits m n ps h, is, way) (widened-farthest m d (lies c) ps f)
+pub swelled-found : (m n : ℕ) (d : Pt) (M : Part) (c r : PartCorner) (o : Octant) → o ≡ towards d → spot r ≡ vertex (spot c -ᵛ cube m) (spot c +ᵛ cube m) o → Cleared {X = Unit {0}} (Roomy m) n M (Ok tt) → Found spot M d (Ok c) → Found spot (swelled m n M) d (Ok r)
+swelled-found m n d (Ok ps) c r o way is h f = rw (swelled-fits m n ps h, is, way) (widened-farthest m d (spot c) ps f)
 swelled-found m n d (Err s) c r o way is h f = absurd f
 
 -- ---- the corners in order
@@ -141,8 +140,8 @@ pub swelled_corner_refused : (m n k : ℕ) (M : Part) (s : Refusal) → Cleared 
 swelled_corner_refused m n k (Ok ps) s (e, h) = rw (swelled_not m n ps h) (ap Err e)
 swelled_corner_refused m n k (Err t) s e = cc
 
-pub corner_roomy : (m n q : ℕ) (M : Part) (c : PartCorner) → Cleared {X = Unit {0}} (Roomy m) n M (Ok tt) → Ok (Some (lies c)) ≡ corner_of M q → Roomy m (lies c)
-corner_roomy m n q (Ok ps) c h e = all-has (Roomy m) ps (lies c) h (nth_has ps q (lies c) (cc))
+pub corner_roomy : (m n q : ℕ) (M : Part) (c : PartCorner) → Cleared {X = Unit {0}} (Roomy m) n M (Ok tt) → Ok (Some (spot c)) ≡ corner_of M q → Roomy m (spot c)
+corner_roomy m n q (Ok ps) c h e = all-has (Roomy m) ps (spot c) h (nth_has ps q (spot c) (cc))
 corner_roomy m n q (Err s) c h e = absurd (refused s h)
 
 eight : (m : ℕ) (p : Pt) → length (widened m p) ≡ 8

@@ -7,7 +7,7 @@ ghost use Rattle.layers.specs.Joins.{joined_keeps};
 
 use exact::direction::Direction;
 use parts::book::{Meaning, PartBook};
-use parts::corner::PartCorner;
+use exact::corner::PartCorner;
 use refusals::Refusal;
 
 // Parts 0 to `last` come from the first book; part n above it is part n − last of the second.

@@ -1,14 +1,13 @@
 // The mirror layer: every corner of the book below with x negated.
 ghost use Rattle.std.specs.Prelude.{◌≡◌};
-ghost use Rattle.exact.specs.Spots.{heading};
-ghost use Rattle.parts.specs.Corners.{lies};
+ghost use Rattle.exact.specs.Spots.{heading, spot};
 ghost use Rattle.layers.specs.Layers.{flipped, mirrored};
 ghost use Rattle.layers.specs.Mirrors.{mirrored-some, mirrored-near};
 
 use exact::direction::Direction;
 use exact::point::Point;
 use parts::book::{Meaning, PartBook};
-use parts::corner::PartCorner;
+use exact::corner::PartCorner;
 use refusals::Refusal;
 
 // The book below seen in the mirror x = 0.
@@ -19,7 +18,7 @@ pub struct Mirror<B> {
 
 // The corner with x negated.
 fn flip(c: PartCorner) -> PartCorner
-    ensures { lies result ≡ flipped (lies c) }
+    ensures { spot result ≡ flipped (spot c) }
 {
     PartCorner {
         x: -c.x,

@@ -1,9 +1,8 @@
 // The swell layer: every corner of the book below is replaced by the eight corners of the box that reaches m from it on every side.
 ghost use Rattle.std.specs.Prelude.{◌≡◌, ◌+◌, ◌≤◌, pos, ◌+ℤ◌, ◌-ℤ◌, ◌≤ℤ◌, int_lt, unsigned_abs};
 ghost use Rattle.integers.specs.Points.{dot, ◌+ᵛ◌, ◌-ᵛ◌};
-ghost use Rattle.exact.specs.Spots.{heading};
+ghost use Rattle.exact.specs.Spots.{heading, spot};
 ghost use Rattle.parts.specs.Boxes.{taken, vertex};
-ghost use Rattle.parts.specs.Corners.{lies};
 ghost use Rattle.layers.specs.Layers.{cube, swelled};
 ghost use Rattle.layers.specs.Swells.{Inside, Roomy, Cleared};
 ghost use Rattle.layers.specs.SwellsLemmas.{swelled-some, swelled-near};
@@ -11,7 +10,7 @@ ghost use Rattle.layers.specs.SwellsLemmas.{swelled-some, swelled-near};
 use exact::direction::Direction;
 use exact::point::Point;
 use parts::book::{Meaning, PartBook};
-use parts::corner::PartCorner;
+use exact::corner::PartCorner;
 use parts::octant::{Octant, Side};
 use refusals::{Layer, Reason, Refusal};
 
@@ -36,8 +35,8 @@ fn moved(x: i8, by: u8, side: Side) -> i8
 
 // One of the eight corners that replace a corner.
 fn widen(c: PartCorner, by: u8, octant: Octant) -> PartCorner
-    requires { Roomy by (lies c) }
-    ensures { lies result ≡ vertex (lies c -ᵛ cube by) (lies c +ᵛ cube by) octant }
+    requires { Roomy by (spot c) }
+    ensures { spot result ≡ vertex (spot c -ᵛ cube by) (spot c +ᵛ cube by) octant }
 {
     PartCorner {
         x: moved(c.x, by, octant.x),
@@ -61,7 +60,7 @@ fn axis(x: i8, y: i8, z: i8) -> Direction
 
 // Whether a corner that is moved along an axis by some steps lies beyond 5.
 fn is_beyond(axis: Direction, c: PartCorner, by: u8) -> bool
-    ensures { result ≡ int_lt (pos 5 -ℤ pos by) (dot (heading axis) (lies c)) }
+    ensures { result ≡ int_lt (pos 5 -ℤ pos by) (dot (heading axis) (spot c)) }
 {
     axis.product(c.on_table()) > 5 - by as i64
 }

@@ -7,24 +7,16 @@ use Rattle.refusals.specs.Slips.{direction_too_long}
 use Rattle.integers.specs.Points.{Pt}
 use Rattle.integers.specs.Space.{Near}
 use Rattle.convex.specs.Hulls.{Found}
-use Rattle.exact.specs.declared.direction.Direction.{Direction}
-use Rattle.exact.specs.Spots.{heading}
-use Rattle.parts.specs.declared.corner.PartCorner.{PartCorner}
-use Rattle.parts.specs.Corners.{lies}
+use Rattle.exact.specs.Spots.{PartCorner, spot}
 
 -- a part: its corners, or its slip
 abbrev pub Part : Type 0
 Part = Result (List Pt) Refusal
 
--- the direction of the numbers of p, or the slip that says that one of them is beyond ±2,000,000,000
-abbrev pub Headed : Pt → Result Direction Refusal → Type 0
-Headed p (Ok d) = Near 2000000000 p × (heading d ≡ p)
-Headed p (Err e) = (Near 2000000000 p → ⊥) × (e ≡ direction_too_long)
-
 -- refused where a number of d is beyond ±2,000,000,000, and only else a farthest corner or the part's slip
 pub record Sought (part : Part) (d : Pt) (r : Result PartCorner Refusal) : Type 0 where
   pub too_long : (Near 2000000000 d → ⊥) → r ≡ Err direction_too_long
-  pub in_range : Near 2000000000 d → Found lies part d r
+  pub in_range : Near 2000000000 d → Found spot part d r
 
 -- the k-th corner from 0, or nothing past the last, or the part's slip
 abbrev pub corner_of : Part → ℕ → Result (Option Pt) Refusal
@@ -33,5 +25,5 @@ corner_of (Err s) k = Err s
 
 -- where the answered corner lies
 abbrev pub told : Result (Option PartCorner) Refusal → Result (Option Pt) Refusal
-told (Ok c) = Ok (option_map lies c)
+told (Ok c) = Ok (option_map spot c)
 told (Err s) = Err s

@@ -1,4 +1,4 @@
 pub mod Boxes
 pub mod Limits
-pub mod Corners
 pub mod Books
+pub mod Moves

@@ -4,28 +4,13 @@ ghost use Rattle.std.specs.List.{AllByRecursion};
 ghost use Rattle.integers.specs.Space.{Near};
 ghost use Rattle.convex.specs.Hulls.{Found};
 ghost use Rattle.exact.specs.Space.{at};
-ghost use Rattle.exact.specs.Spots.{heading};
-ghost use Rattle.parts.specs.Corners.{lies};
-ghost use Rattle.parts.specs.Books.{Part, Headed, Sought, corner_of, told};
+ghost use Rattle.exact.specs.Spots.{heading, spot};
+ghost use Rattle.parts.specs.Books.{Part, Sought, corner_of, told};
 
-use crate::corner::PartCorner;
+use exact::corner::PartCorner;
 use exact::direction::Direction;
 use exact::point::Point;
-use refusals::{Layer, Reason, Refusal};
-
-// The direction of three numbers, refused where one is beyond ±2,000,000,000.
-fn along(direction: Point) -> Result<Direction, Refusal>
-    ensures { Headed (at direction) result }
-{
-    match Direction::new(direction) {
-        Some(d) => Ok(d),
-        None => Err(Refusal {
-            reason: Reason::DirectionTooLong,
-            layer: Layer::Call,
-            place: 0,
-        }),
-    }
-}
+use refusals::Refusal;
 
 // What a book says of each part number from 0 to 65535.
 pub trait Meaning {
@@ -43,7 +28,7 @@ pub trait Meaning {
 pub trait PartBook: Meaning {
     // A corner whose product with the direction is largest; among equals the choice is free.
     fn farthest_along(&self, part: u16, direction: Direction) -> Result<PartCorner, Refusal>
-        ensures { Found lies (Self.Meaning.meaning self.now part) (heading direction) result };
+        ensures { Found spot (Self.Meaning.meaning self.now part) (heading direction) result };
 
     // The k-th corner from 0, or nothing where the part has no more than k.
     fn corner(&self, part: u16, k: usize) -> Result<Option<PartCorner>, Refusal>
@@ -54,6 +39,5 @@ pub trait PartBook: Meaning {
 pub fn farthest<B: PartBook>(book: &B, part: u16, direction: Point) -> Result<PartCorner, Refusal>
     ensures { Sought (B.Meaning.meaning book.now part) (at direction) result }
 {
-    let d = along(direction)?;
-    book.farthest_along(part, d)
+    book.farthest_along(part, Direction::try_from(direction)?)
 }

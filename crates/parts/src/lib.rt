@@ -2,7 +2,6 @@
 #![tactic(auto)]
 
 pub mod book;
-pub mod corner;
+pub mod moves;
 pub mod octant;
 pub mod octants;
-pub mod products;

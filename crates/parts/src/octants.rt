@@ -3,23 +3,18 @@ ghost use Rattle.std.specs.Prelude.{◌≡◌, ◌%◌, pos, if◌then◌else◌
 ghost use Rattle.std.specs.List.{slice_get};
 ghost use Rattle.exact.specs.Spots.{heading};
 ghost use Rattle.parts.specs.declared.octant.Side.TheVariants.{Low, High};
-ghost use Rattle.parts.specs.Boxes.{octants, side, towards as towards_of};
+ghost use Rattle.parts.specs.Boxes.{octants, towards as towards_of};
 
 use crate::octant::{Octant, Side};
 use exact::direction::Direction;
 
-// High where a bit is set.
-fn by_bit(set: bool) -> Side
-    ensures { result ≡ (if set then High else Low) }
-{
-    if set { Side::High } else { Side::Low }
-}
+// The high side where a test holds, of a bit or of a direction's sign.
+impl From<bool> for Side {
+    ghost from_gives = { λ test side. side ≡ (if test then High else Low) };
 
-// High where a number of a direction is above 0.
-fn by_sign(along: i64) -> Side
-    ensures { result ≡ side along }
-{
-    if along > 0 { Side::High } else { Side::Low }
+    fn from(test: bool) -> Side {
+        if test { Side::High } else { Side::Low }
+    }
 }
 
 impl Octant {
@@ -28,9 +23,9 @@ impl Octant {
         ensures { slice_get octants (k % 8) ≡ Some result }
     {
         Octant {
-            x: by_bit(k % 8 >= 4),
-            y: by_bit(k % 4 >= 2),
-            z: by_bit(k % 2 == 1),
+            x: Side::from(k % 8 >= 4),
+            y: Side::from(k % 4 >= 2),
+            z: Side::from(k % 2 == 1),
         }
     }
 
@@ -40,9 +35,9 @@ impl Octant {
     {
         let d = direction.along;
         Octant {
-            x: by_sign(d.x),
-            y: by_sign(d.y),
-            z: by_sign(d.z),
+            x: Side::from(d.x > 0),
+            y: Side::from(d.y > 0),
+            z: Side::from(d.z > 0),
         }
     }
 }

@@ -8,11 +8,8 @@ use Rattle.integers.proofs.Order.{≤ℤ_trans}
 use Rattle.integers.proofs.Solver.{con, solve}
 use Rattle.integers.proofs.Vectors.{dot_e, origin_e, P₀, pts}
 use Rattle.convex.specs.Hulls.{Farthest, Found}
-use Rattle.exact.specs.declared.corner.Corner.{Corner}
+use Rattle.exact.specs.Spots.{Corner, spot, PartCorner}
 use Rattle.exact.specs.Space.{at}
-use Rattle.exact.specs.Spots.{spot}
-use Rattle.parts.specs.declared.corner.PartCorner.{PartCorner}
-use Rattle.parts.specs.Corners.{lies}
 use Rattle.parts.specs.Books.{Part}
 use Rattle.poses.specs.declared.turn.Turn.{Turn}
 use Rattle.poses.specs.declared.pose.Pose.{Pose}
@@ -90,6 +87,6 @@ farthest-posed s ps d p h =
     go (lt_z (dot d start) (dot d (start +ᵛ v))) refl
 
 -- the answer of the part's book, asked along d turned back, gives that of the part in a pose: turned to q, and moved by e to r
-pub found-posed : (s : Pose) (m : Part) (d f : Pt) (c q : PartCorner) (e r : Corner) → f ≡ turned (back s.turn) d → lies q ≡ turned s.turn (lies c) → spot e ≡ farther d s → spot r ≡ lies q +ᵛ spot e → Found lies m f (Ok c) → Found spot (posed s m) d (Ok r)
-found-posed s (Ok ps) d f c q e r h k l is g = subst (Farthest _ d) (sym (is ∙ ap₂ ◌+ᵛ◌ k l)) (farthest-posed s ps d (lies c) (subst (λ v. Farthest ps v (lies c)) h g))
+pub found-posed : (s : Pose) (m : Part) (d f : Pt) (c q : PartCorner) (e r : Corner) → f ≡ turned (back s.turn) d → spot q ≡ turned s.turn (spot c) → spot e ≡ farther d s → spot r ≡ spot q +ᵛ spot e → Found spot m f (Ok c) → Found spot (posed s m) d (Ok r)
+found-posed s (Ok ps) d f c q e r h k l is g = subst (Farthest _ d) (sym (is ∙ ap₂ ◌+ᵛ◌ k l)) (farthest-posed s ps d (spot c) (subst (λ v. Farthest ps v (spot c)) h g))
 found-posed s (Err t) d f c q e r h k l is g = absurd g

@@ -4,7 +4,6 @@ ghost use Rattle.std.specs.List.{AllByRecursion};
 ghost use Rattle.integers.specs.Points.{◌+ᵛ◌};
 ghost use Rattle.integers.specs.Space.{Near};
 ghost use Rattle.exact.specs.Spots.{spot};
-ghost use Rattle.parts.specs.Corners.{lies};
 ghost use Rattle.poses.specs.Poses.{posed as posed_as};
 
 use crate::pose::Pose;
@@ -12,7 +11,7 @@ use exact::corner::Corner;
 use exact::direction::Direction;
 use nearest::body::Body;
 use parts::book::PartBook;
-use parts::corner::PartCorner;
+use exact::corner::PartCorner;
 use refusals::Refusal;
 
 // The part of this number of a book, in a pose.
@@ -38,7 +37,7 @@ impl<'a, B: PartBook> Posed<'a, B> {
 // A corner of a turned part, moved.
 fn moved(corner: PartCorner, by: Corner) -> Corner
     requires { Near 9 (spot by) }
-    ensures { spot result ≡ lies corner +ᵛ spot by }
+    ensures { spot result ≡ spot corner +ᵛ spot by }
 {
     Corner {
         x: corner.x + by.x,

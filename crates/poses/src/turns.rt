@@ -1,13 +1,12 @@
 // Turns by their number, and the turning of corners and directions.
 ghost use Rattle.std.specs.Prelude.{◌≡◌};
-ghost use Rattle.exact.specs.Spots.{heading};
-ghost use Rattle.parts.specs.Corners.{lies};
+ghost use Rattle.exact.specs.Spots.{heading, spot};
 ghost use Rattle.poses.specs.Poses.{Numbered, turned as turned_of, back as back_of};
 
 use crate::turn::Turn;
 use exact::direction::Direction;
 use exact::point::Point;
-use parts::corner::PartCorner;
+use exact::corner::PartCorner;
 
 impl Turn {
     // The turn by a number of quarters, or nothing where it is not 0 to 3.
@@ -37,7 +36,7 @@ impl Turn {
 
     // A part's corner, turned.
     pub fn turned(self, c: PartCorner) -> PartCorner
-        ensures { lies result ≡ turned_of self (lies c) }
+        ensures { spot result ≡ turned_of self (spot c) }
     {
         match self {
             Turn::Straight => c,
