@@ -8,9 +8,8 @@ use Rattle.std.proofs.lemmas.Int.{ints}
 use Rattle.integers.specs.Points.{Pt, dot}
 use Rattle.convex.specs.Hulls.{Farthest}
 use Rattle.search.specs.declared.Scored.{Scored}
-use Rattle.exact.specs.declared.corner.Corner.{Corner}
+use Rattle.exact.specs.Spots.{Corner, spot}
 use Rattle.exact.specs.declared.scores.Product.{Product}
-use Rattle.exact.specs.Spots.{spot}
 use Rattle.exact.specs.Finds as finds
 
 no_larger : (x y z : ℤ) → y ≡ z → le_z x y ≡ true → x ≤ℤ z

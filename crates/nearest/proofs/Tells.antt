@@ -18,9 +18,8 @@ use Rattle.convex.proofs.Fractions.{square-same}
 use Rattle.convex.proofs.Lowest.{same_of_reduced, same-reduced, nearest-reduced, bottom_reduced, square-reduced, nearest_unique_lowest, square_unique_lowest}
 use Rattle.convex.proofs.Simplices.{foot_laws}
 use Rattle.convex.proofs.Stopping.{stopping_of_nearest}
-use Rattle.exact.specs.declared.corner.Corner.{Corner}
+use Rattle.exact.specs.Spots.{Corner, spot}
 use Rattle.exact.specs.Space.{at}
-use Rattle.exact.specs.Spots.{spot}
 use Rattle.nearest.specs.declared.pair.Pair.{Pair}
 use Rattle.nearest.specs.declared.simplex.Carrier.{Carrier}
 use Rattle.nearest.specs.declared.measurement.Witness.{Witness}

@@ -3,8 +3,7 @@ use Rattle.std.specs.Prelude.{◌≡◌, List, Ok, Err, Result}
 use Rattle.refusals.specs.declared.Refusal.{Refusal}
 use Rattle.integers.specs.Points.{Pt}
 use Rattle.convex.specs.Hulls.{Farthest}
-use Rattle.exact.specs.declared.corner.Corner.{Corner}
-use Rattle.exact.specs.Spots.{spot}
+use Rattle.exact.specs.Spots.{Corner, spot}
 
 -- a corner that is farthest along d, or the body's slip
 abbrev pub Found : Result (List Pt) Refusal → Pt → Result Corner Refusal → Type 0

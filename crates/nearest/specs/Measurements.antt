@@ -11,9 +11,8 @@ use Rattle.convex.specs.Means.{Nearest, StoppingTest}
 use Rattle.convex.specs.Hulls.{comb, totalℤ}
 use Rattle.convex.specs.Simplices.{Independent}
 use Rattle.convex.specs.Lowest.{InLowestTerms}
-use Rattle.exact.specs.declared.corner.Corner.{Corner}
+use Rattle.exact.specs.Spots.{Corner, spot}
 use Rattle.exact.specs.Space.{at}
-use Rattle.exact.specs.Spots.{spot}
 use Rattle.nearest.specs.declared.measurement.Witness.{Witness}
 use Rattle.nearest.specs.declared.measurement.Measurement.{Measurement}
 use Rattle.nearest.specs.Bodies.{OfBoth}

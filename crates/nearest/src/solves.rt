@@ -13,8 +13,8 @@ use exact::point::Point;
 pub(crate) fn difference(a: Pair) -> Point
     ensures { at result ≡ between a }
 {
-    let p = a.first.point();
-    let q = a.second.point();
+    let p = Point::from(a.first);
+    let q = Point::from(a.second);
     minus(p, q)
 }
 
