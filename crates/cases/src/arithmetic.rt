@@ -14,10 +14,10 @@ fn point(x: i64, y: i64, z: i64) -> Point {
 
 #[test]
 fn corners_reach_fourteen_steps(rt: HostRuntime) -> Result<(), Fail> {
-    assert_eq!(rt; corner(14, -14, 0)?.point(), point(14, -14, 0));
-    assert!(rt; Corner::new(point(15, 0, 0)).is_none());
-    assert!(rt; Corner::new(point(0, -15, 0)).is_none());
-    assert!(rt; Corner::new(point(0, 0, i64::MIN)).is_none());
+    assert_eq!(rt; Point::from(corner(14, -14, 0)?), point(14, -14, 0));
+    assert!(rt; Corner::try_from(point(15, 0, 0)).is_err());
+    assert!(rt; Corner::try_from(point(0, -15, 0)).is_err());
+    assert!(rt; Corner::try_from(point(0, 0, i64::MIN)).is_err());
     Ok(())
 }
 
@@ -31,8 +31,8 @@ fn products_and_squares(rt: HostRuntime) -> Result<(), Fail> {
     assert_eq!(rt; still.product(c), 0);
     let d = along(1, 2, -3)?;
     assert_eq!(rt; d.product(corner(5, -4, 3)?), -12);
-    assert!(rt; Direction::new(point(2000000001, 0, 0)).is_none());
-    assert!(rt; Direction::new(point(0, 0, i64::MAX)).is_none());
+    assert!(rt; Direction::try_from(point(2000000001, 0, 0)).is_err());
+    assert!(rt; Direction::try_from(point(0, 0, i64::MAX)).is_err());
     Ok(())
 }
 
@@ -65,19 +65,19 @@ fn gaps_as_fractions(rt: HostRuntime) -> Result<(), Fail> {
     let third = gap(1, 3)?;
     let four_ninths = gap(4, 9)?;
     assert!(rt;
-        third.is_narrower(four_ninths),
+        third < four_ninths,
         "1/3 is below 4/9, though both have the whole part 0"
     );
-    assert!(rt; !four_ninths.is_narrower(third));
+    assert!(rt; four_ninths >= third);
     let half = gap(1, 2)?;
     let two_quarters = gap(2, 4)?;
     assert!(rt;
-        !half.is_narrower(two_quarters) && !two_quarters.is_narrower(half),
+        half >= two_quarters && two_quarters >= half,
         "equal fractions tie"
     );
     let widest = gap(18000000000, 1)?;
     let least = gap(1, 120000000)?;
-    assert!(rt; least.is_narrower(widest) && !widest.is_narrower(least));
+    assert!(rt; least < widest && widest >= least);
     let reduced = gap(36, 81)?.lowest();
     assert_eq!(rt; reduced.p, 4);
     assert_eq!(rt; reduced.q, 9);

@@ -7,29 +7,17 @@ use exact::point::Point;
 use std::test::Fail;
 
 pub(crate) fn corner(x: i64, y: i64, z: i64) -> Result<Corner, Fail> {
-    match Corner::new(Point { x, y, z }) {
-        Some(c) => Ok(c),
-        None => Err(Fail::new("a corner beyond 14 steps")),
-    }
+    Ok(Corner::try_from(Point { x, y, z })?)
 }
 
 pub(crate) fn along(x: i64, y: i64, z: i64) -> Result<Direction, Fail> {
-    match Direction::new(Point { x, y, z }) {
-        Some(d) => Ok(d),
-        None => Err(Fail::new("a direction beyond its limit")),
-    }
+    Ok(Direction::try_from(Point { x, y, z })?)
 }
 
 pub(crate) fn over(x: i64, y: i64, z: i64, w: i64) -> Result<Fraction, Fail> {
-    match Fraction::new(Point { x, y, z }, w) {
-        Some(f) => Ok(f),
-        None => Err(Fail::new("a fraction over a number below 1")),
-    }
+    Ok(Fraction::new(Point { x, y, z }, w).ok_or("a fraction over a number below 1")?)
 }
 
 pub(crate) fn gap(p: u64, q: u64) -> Result<Gap, Fail> {
-    match Gap::new(p, q) {
-        Some(g) => Ok(g),
-        None => Err(Fail::new("a gap out of bounds")),
-    }
+    Ok(Gap::new(p, q).ok_or("a gap out of bounds")?)
 }

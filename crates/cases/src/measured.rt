@@ -8,33 +8,41 @@ use std::process::Abort;
 use std::test::Fail;
 
 fn measured(first: &[Corner], second: &[Corner]) -> Result<Measurement, Fail> {
-    let (Some(a), Some(b)) = (Corners::new(first), Corners::new(second)) else {
-        return Err(Fail::new("a body has no corners"));
-    };
-    match measure(&a, &b) {
-        Ok(m) => Ok(m),
-        Err(_) => Err(Fail::new("a list of corners refuses nothing")),
-    }
+    let a = Corners::new(first).ok_or("a body has no corners")?;
+    let b = Corners::new(second).ok_or("a body has no corners")?;
+    Ok(measure(&a, &b)?)
 }
 
-// Whether the measurement of this case is d / w with the squared gap p / q.
+// What a measurement is to say: the nearest difference d / w, and the squared gap p / q.
+#[derive(Clone, Copy)]
+struct Told {
+    d: Point,
+    w: i64,
+    p: u64,
+    q: u64,
+}
+
+// Whether the measurement of this case says so.
 fn says(
     rt: &impl Abort,
     case: &str,
     first: &[Corner],
     second: &[Corner],
-    d: (i64, i64, i64),
-    w: i64,
-    p: u64,
-    q: u64,
+    told: Told,
 ) -> Result<(), Fail> {
     let m = measured(first, second)?;
-    let (x, y, z) = d;
-    assert_eq!(rt; m.d, Point { x, y, z }, "{case}");
-    assert_eq!(rt; m.w, w, "{case}");
-    assert_eq!(rt; m.gap.p, p, "{case}");
-    assert_eq!(rt; m.gap.q, q, "{case}");
+    assert_eq!(rt; m.d, told.d, "{case}");
+    assert_eq!(rt; m.w, told.w, "{case}");
+    assert_eq!(rt; m.gap.p, told.p, "{case}");
+    assert_eq!(rt; m.gap.q, told.q, "{case}");
     Ok(())
+}
+
+// d / w and p / q, as numbers.
+macro_rules! told {
+    ($x:expr, $y:expr, $z:expr; $w:expr; $p:expr, $q:expr) => {
+        Told { d: Point { x: $x, y: $y, z: $z }, w: $w, p: $p, q: $q }
+    };
 }
 
 // A corner, by its coordinates.
@@ -59,30 +67,21 @@ fn fractions_of_a_step(rt: HostRuntime) -> Result<(), Fail> {
         "the gap of a half",
         &[at!(1, 0, 0), at!(0, 1, 0)],
         &origin,
-        (1, 1, 0),
-        2,
-        1,
-        2,
+        told!(1, 1, 0; 2; 1, 2),
     )?;
     says(
         &rt,
         "the gap of a third",
         &[at!(1, 0, 0), at!(0, 1, 0), at!(0, 0, 1)],
         &origin,
-        (1, 1, 1),
-        3,
-        1,
-        3,
+        told!(1, 1, 1; 3; 1, 3),
     )?;
     says(
         &rt,
         "the gap of four ninths",
         &[at!(2, 0, 0), at!(0, 1, 0), at!(0, 0, 1)],
         &origin,
-        (2, 4, 4),
-        9,
-        4,
-        9,
+        told!(2, 4, 4; 9; 4, 9),
     )?;
     let face = [at!(-12, -9, -5), at!(14, 6, 2), at!(-14, 12, 11)];
     says(
@@ -90,10 +89,7 @@ fn fractions_of_a_step(rt: HostRuntime) -> Result<(), Fail> {
         "the face of a slanted solid",
         &face,
         &[at!(-3, 5, 4)],
-        (-93, 430, -576),
-        525325,
-        1,
-        525325,
+        told!(-93, 430, -576; 525325; 1, 525325),
     )
 }
 
@@ -105,86 +101,68 @@ fn a_touch_and_a_step_off_it(rt: HostRuntime) -> Result<(), Fail> {
         "face on face",
         &cube,
         &cuboid!(1, -1, -1; 3, 1, 1),
-        (0, 0, 0),
-        1,
-        0,
-        1,
+        told!(0, 0, 0; 1; 0, 1),
     )?;
     says(
         &rt,
         "corner on corner",
         &cube,
         &cuboid!(1, 1, 1; 3, 3, 3),
-        (0, 0, 0),
-        1,
-        0,
-        1,
+        told!(0, 0, 0; 1; 0, 1),
     )?;
     says(
         &rt,
         "edge against edge",
         &cube,
         &cuboid!(2, 2, -1; 4, 4, 1),
-        (-1, -1, 0),
-        1,
-        2,
-        1,
+        told!(-1, -1, 0; 1; 2, 1),
     )?;
     says(
         &rt,
         "corner before a corner",
         &cube,
         &[at!(2, 2, 2)],
-        (-1, -1, -1),
-        1,
-        3,
-        1,
+        told!(-1, -1, -1; 1; 3, 1),
     )?;
     says(
         &rt,
         "face above face",
         &cube,
         &cuboid!(-14, -14, -14; 14, 14, -2),
-        (0, 0, 1),
-        1,
-        1,
-        1,
+        told!(0, 0, 1; 1; 1, 1),
     )
 }
 
 #[test]
 fn inside_and_equal(rt: HostRuntime) -> Result<(), Fail> {
     let cube = cuboid!(-6, -6, -6; 6, 6, 6);
-    says(&rt, "a cube and itself", &cube, &cube, (0, 0, 0), 1, 0, 1)?;
+    says(
+        &rt,
+        "a cube and itself",
+        &cube,
+        &cube,
+        told!(0, 0, 0; 1; 0, 1),
+    )?;
     says(
         &rt,
         "a corner inside a cube",
         &cube,
         &[at!(1, 2, 3)],
-        (0, 0, 0),
-        1,
-        0,
-        1,
+        told!(0, 0, 0; 1; 0, 1),
     )?;
     says(
         &rt,
         "a cube around a corner",
         &[at!(0, 0, 0)],
         &cube,
-        (0, 0, 0),
-        1,
-        0,
-        1,
+        told!(0, 0, 0; 1; 0, 1),
     )?;
     says(
         &rt,
         "opposite ends of the table",
         &[at!(14, -14, 14)],
         &[at!(-14, 14, -14)],
-        (28, -28, 28),
-        1,
-        2352,
-        1,
+        told!(28, -28, 28; 1; 2352, 1),
     )
 }
 
@@ -196,10 +174,7 @@ fn in_a_line_in_a_plane_and_twice(rt: HostRuntime) -> Result<(), Fail> {
         "corners in a line",
         &line,
         &[at!(2, 5, 0), at!(2, 5, 0)],
-        (0, -5, 0),
-        1,
-        25,
-        1,
+        told!(0, -5, 0; 1; 25, 1),
     )?;
     let square = [at!(-1, -1, 0), at!(-1, 1, 0), at!(1, -1, 0), at!(1, 1, 0)];
     says(
@@ -207,30 +182,21 @@ fn in_a_line_in_a_plane_and_twice(rt: HostRuntime) -> Result<(), Fail> {
         "above a square",
         &square,
         &[at!(0, 0, 3)],
-        (0, 0, -3),
-        1,
-        9,
-        1,
+        told!(0, 0, -3; 1; 9, 1),
     )?;
     says(
         &rt,
         "in the plane, inside",
         &square,
         &[at!(0, 0, 0)],
-        (0, 0, 0),
-        1,
-        0,
-        1,
+        told!(0, 0, 0; 1; 0, 1),
     )?;
     says(
         &rt,
         "in the plane, outside",
         &square,
         &[at!(3, 3, 0)],
-        (-2, -2, 0),
-        1,
-        8,
-        1,
+        told!(-2, -2, 0; 1; 8, 1),
     )
 }
 
@@ -240,12 +206,12 @@ fn witnesses_come_first_and_zeros_after(rt: HostRuntime) -> Result<(), Fail> {
     let [a, b, c, d] = m.witnesses;
     assert!(rt; a.weight > 0 && b.weight > 0 && c.weight > 0);
     assert_eq!(rt; d.weight, 0);
-    assert_eq!(rt; d.first.point(), Point { x: 0, y: 0, z: 0 });
-    assert_eq!(rt; d.second.point(), Point { x: 0, y: 0, z: 0 });
+    assert_eq!(rt; Point::from(d.first), Point { x: 0, y: 0, z: 0 });
+    assert_eq!(rt; Point::from(d.second), Point { x: 0, y: 0, z: 0 });
     let one = measured(&[at!(3, 4, 0)], &[at!(0, 0, 0)])?;
     let [e, f, g, h] = one.witnesses;
     assert_eq!(rt; e.weight, 1);
-    assert_eq!(rt; e.first.point(), Point { x: 3, y: 4, z: 0 });
+    assert_eq!(rt; Point::from(e.first), Point { x: 3, y: 4, z: 0 });
     assert!(rt; f.weight == 0 && g.weight == 0 && h.weight == 0);
     Ok(())
 }

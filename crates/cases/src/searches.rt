@@ -35,9 +35,7 @@ fn one_corner_and_none(rt: HostRuntime) -> Result<(), Fail> {
 #[test]
 fn the_first_of_the_narrowest_gaps(rt: HostRuntime) -> Result<(), Fail> {
     let gaps = [gap(1, 2)?, gap(4, 9)?, gap(1, 3)?, gap(2, 6)?];
-    let Some(found) = narrowest(&gaps) else {
-        return Err(Fail::new("there are gaps"));
-    };
+    let found = narrowest(&gaps).ok_or("there are gaps")?;
     assert_eq!(rt; found.candidate, 2);
     assert_eq!(rt; found.score.q, 3);
     assert!(rt; narrowest(&gaps[0..0]).is_none());

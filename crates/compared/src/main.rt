@@ -2,12 +2,14 @@
 // independent program worked out (tools/oracle.py). A line has two counts and then the coordinates of that many corners of each body.
 #![tactic(auto)]
 
-use anyhow::anyhow;
+use anyhow::Context;
 use exact::corner::Corner;
+use exact::gap::Gap;
 use exact::point::Point;
 use nearest::corners::Corners;
 use nearest::measure::measure;
 use std::alloc::Global;
+use std::slice::Iter;
 
 // The numbers of a line.
 fn numbers(heap: Global, line: &str) -> anyhow::Result<Vec<i64>> {
@@ -18,25 +20,19 @@ fn numbers(heap: Global, line: &str) -> anyhow::Result<Vec<i64>> {
     Ok(all)
 }
 
-fn number(all: &Vec<i64>, at: usize) -> anyhow::Result<i64> {
-    match all.get(at) {
-        Some(n) => Ok(*n),
-        None => Err(anyhow!("a line has too few numbers")),
-    }
+// The next number of a line.
+fn number(rest: &mut Iter<'_, i64>) -> anyhow::Result<i64> {
+    rest.next().copied().context("a line has too few numbers")
 }
 
-// The count corners whose coordinates begin at a place of the line.
-fn corners(heap: Global, all: &Vec<i64>, from: usize, count: usize) -> anyhow::Result<Vec<Corner>> {
+// The next count corners of a line.
+fn corners(heap: Global, rest: &mut Iter<'_, i64>, count: usize) -> anyhow::Result<Vec<Corner>> {
     let mut list = Vec::new(heap);
-    for k in 0..count {
-        let at = from.saturating_add(k.saturating_mul(3));
-        let x = number(all, at)?;
-        let y = number(all, at.saturating_add(1))?;
-        let z = number(all, at.saturating_add(2))?;
-        match Corner::new(Point { x, y, z }) {
-            Some(c) => list.push(c)?,
-            None => return Err(anyhow!("a corner lies beyond 14 steps")),
-        }
+    for _ in 0..count {
+        let x = number(rest)?;
+        let y = number(rest)?;
+        let z = number(rest)?;
+        list.push(Corner::try_from(Point { x, y, z })?)?;
     }
     Ok(list)
 }
@@ -45,22 +41,18 @@ fn corners(heap: Global, all: &Vec<i64>, from: usize, count: usize) -> anyhow::R
 fn compared(rt: &(impl Print + AllocGlobal), line: &str) -> anyhow::Result<()> {
     let heap = rt.alloc();
     let all = numbers(heap, line)?;
-    let n = usize::try_from(number(&all, 0)?)?;
-    let m = usize::try_from(number(&all, 1)?)?;
-    let first = corners(heap, &all, 2, n)?;
-    let second = corners(heap, &all, n.saturating_mul(3).saturating_add(2), m)?;
-    let (Some(a), Some(b)) = (
-        Corners::new(first.as_slice()),
-        Corners::new(second.as_slice()),
-    ) else {
-        return Err(anyhow!("a body has no corners"));
-    };
+    let mut rest = all.iter();
+    let n = usize::try_from(number(&mut rest)?)?;
+    let m = usize::try_from(number(&mut rest)?)?;
+    let first = corners(heap, &mut rest, n)?;
+    let second = corners(heap, &mut rest, m)?;
+    let a = Corners::new(first.as_slice()).context("a body has no corners")?;
+    let b = Corners::new(second.as_slice()).context("a body has no corners")?;
     match measure(&a, &b) {
         Ok(found) => {
             let Point { x, y, z } = found.d;
             let w = found.w;
-            let p = found.gap.p;
-            let q = found.gap.q;
+            let Gap { p, q } = found.gap;
             println!(rt; "{x} {y} {z} {w} {p} {q}")?;
         }
         Err(_) => println!(rt; "refused")?,

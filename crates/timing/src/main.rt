@@ -1,7 +1,7 @@
 // Times the measurement: nanoseconds for one, over bodies of 4, 8, 16 and 50 corners. It is no test: with no argument it only says how to run it.
 #![tactic(auto)]
 
-use anyhow::anyhow;
+use anyhow::Context;
 use exact::corner::Corner;
 use exact::point::Point;
 use nearest::corners::Corners;
@@ -11,31 +11,31 @@ use std::env;
 use std::rt::{Clock, Env};
 use std::time::Instant;
 
-// The next number of a simple generator.
-fn stirred(seed: u64) -> u64 {
-    seed.wrapping_mul(6364136223846793005)
-        .wrapping_add(1442695040888963407)
-}
+// A simple generator of numbers.
+#[derive(Drop)]
+struct Noise(u64);
 
-// A coordinate within ±7 from a number of the generator.
-fn coordinate(seed: u64) -> i64 {
-    (seed.rotate_left(20) % 15) as i64 - 7
+impl Noise {
+    // The next coordinate, within ±7.
+    fn coordinate(&mut self) -> i64 {
+        let x = (self.0.rotate_left(20) % 15) as i64 - 7;
+        self.0 = self
+            .0
+            .wrapping_mul(6364136223846793005)
+            .wrapping_add(1442695040888963407);
+        x
+    }
 }
 
 // As many corners as asked for within ±7 steps of a middle.
 fn cloud(heap: Global, count: usize, from: u64, middle: i64) -> anyhow::Result<Vec<Corner>> {
     let mut list = Vec::new(heap);
-    let mut seed = from;
+    let mut noise = Noise(from);
     for _ in 0..count {
-        let x = coordinate(seed).saturating_add(middle);
-        seed = stirred(seed);
-        let y = coordinate(seed);
-        seed = stirred(seed);
-        let z = coordinate(seed);
-        seed = stirred(seed);
-        if let Some(c) = Corner::new(Point { x, y, z }) {
-            list.push(c)?;
-        }
+        let x = noise.coordinate().saturating_add(middle);
+        let y = noise.coordinate();
+        let z = noise.coordinate();
+        list.push(Corner::try_from(Point { x, y, z })?)?;
     }
     Ok(list)
 }
@@ -46,17 +46,11 @@ fn rounds(heap: Global, count: usize, times: u64) -> anyhow::Result<u64> {
     for k in 0..16u64 {
         let first = cloud(heap, count, k.wrapping_mul(977).wrapping_add(1), -6)?;
         let second = cloud(heap, count, k.wrapping_mul(7919).wrapping_add(5), 6)?;
-        let (Some(a), Some(b)) = (
-            Corners::new(first.as_slice()),
-            Corners::new(second.as_slice()),
-        ) else {
-            return Err(anyhow!("a body has no corners"));
-        };
+        let a = Corners::new(first.as_slice()).context("a body has no corners")?;
+        let b = Corners::new(second.as_slice()).context("a body has no corners")?;
         for _ in 0..times {
-            if let Ok(found) = measure(&a, &b) {
-                if found.gap.p > 0 {
-                    apart = apart.saturating_add(1);
-                }
+            if measure(&a, &b).is_ok_and(|found| found.gap.p > 0) {
+                apart = apart.saturating_add(1);
             }
         }
     }
@@ -80,10 +74,10 @@ fn run(rt: &HostRuntime) -> anyhow::Result<()> {
         )?;
         return Ok(());
     }
-    timed(rt, 4)?;
-    timed(rt, 8)?;
-    timed(rt, 16)?;
-    timed(rt, 50)
+    for count in [4, 8, 16, 50] {
+        timed(rt, count)?;
+    }
+    Ok(())
 }
 
 fn main(rt: HostRuntime) -> anyhow::Result<()> {

@@ -4,92 +4,77 @@
 mod shapes;
 mod show;
 
-use crate::shapes::{case_with_feet, slanted_lid};
+use crate::shapes::{CASE_WITH_FEET, SLANTED_LID};
 use crate::show::{Fraction, Shown};
-use anyhow::anyhow;
+use anyhow::Context;
 use exact::corner::Corner;
 use exact::direction::Direction;
+use exact::gap::Gap;
 use exact::point::Point;
 use exact::scores::farthest;
 use nearest::corners::Corners;
 use nearest::measure::measure;
-use nearest::measurement::{Measurement, Witness};
+use nearest::measurement::Measurement;
 use worked::worked_measurements;
 
 // The corner of a body that lies farthest along a direction, with its product.
 fn print_farthest(rt: &impl Print, corners: &[Corner], along: Point) -> anyhow::Result<()> {
     let shown = Shown(along);
-    let Some(direction) = Direction::new(along) else {
+    let Ok(direction) = Direction::try_from(along) else {
         println!(rt; "  along {shown}: beyond 2,000,000,000")?;
         return Ok(());
     };
     if let Some(found) = farthest(corners, direction) {
         let place = found.candidate;
         let product = found.score.0;
-        if place < corners.len() {
-            let at = Shown(corners[place].point());
+        if let Some(corner) = corners.get(place) {
+            let at = Shown(Point::from(*corner));
             println!(rt; "  along {shown}: corner {place} at {at}, product {product}")?;
         }
     }
     Ok(())
 }
 
-// A witness, unless its place is unused.
-fn print_witness(rt: &impl Print, witness: Witness) -> anyhow::Result<()> {
-    let weight = witness.weight;
-    if weight != 0 {
-        let a = Shown(witness.first.point());
-        let b = Shown(witness.second.point());
+// The numbers of a measurement and its witnesses; places after these have weight 0.
+fn print_measurement(rt: &impl Print, found: &Measurement) -> anyhow::Result<()> {
+    let difference = Fraction(found.d, found.w);
+    let Gap { p, q } = found.gap;
+    println!(rt; "  nearest difference D / W = {difference}, squared gap p / q = {p}/{q}")?;
+    for witness in found.witnesses.iter().filter(|w| w.weight != 0) {
+        let a = Shown(Point::from(witness.first));
+        let b = Shown(Point::from(witness.second));
+        let weight = witness.weight;
         println!(rt; "  witness: {a} of the first and {b} of the second, weight {weight}")?;
     }
     Ok(())
 }
 
-// The numbers of a measurement and its witnesses.
-fn print_measurement(rt: &impl Print, found: &Measurement) -> anyhow::Result<()> {
-    let difference = Fraction(found.d, found.w);
-    let gap = found.gap;
-    let p = gap.p;
-    let q = gap.q;
-    println!(rt; "  nearest difference D / W = {difference}, squared gap p / q = {p}/{q}")?;
-    let [a, b, c, d] = found.witnesses;
-    print_witness(rt, a)?;
-    print_witness(rt, b)?;
-    print_witness(rt, c)?;
-    print_witness(rt, d)
+// a less b, where that fits.
+fn minus(a: Point, b: Point) -> Option<Point> {
+    Some(Point {
+        x: a.x.checked_sub(b.x)?,
+        y: a.y.checked_sub(b.y)?,
+        z: a.z.checked_sub(b.z)?,
+    })
+}
+
+// The product of two points, where it fits.
+fn dot(a: Point, b: Point) -> Option<i64> {
+    let x = a.x.checked_mul(b.x)?;
+    let y = a.y.checked_mul(b.y)?;
+    let z = a.z.checked_mul(b.z)?;
+    x.checked_add(y)?.checked_add(z)
 }
 
 // W times the product of D and a − b, where that fits.
-fn reach(found: &Measurement, a: Point, b: Point) -> Option<i64> {
-    let x = found.d.x.checked_mul(a.x.checked_sub(b.x)?)?;
-    let y = found.d.y.checked_mul(a.y.checked_sub(b.y)?)?;
-    let z = found.d.z.checked_mul(a.z.checked_sub(b.z)?)?;
-    x.checked_add(y)?.checked_add(z)?.checked_mul(found.w)
+fn reach(found: &Measurement, a: Corner, b: Corner) -> Option<i64> {
+    let difference = minus(Point::from(a), Point::from(b))?;
+    dot(found.d, difference)?.checked_mul(found.w)
 }
 
-// The square of D, where that fits.
-fn square(found: &Measurement) -> Option<i64> {
-    let d = found.d;
-    d.x.checked_mul(d.x)?
-        .checked_add(d.y.checked_mul(d.y)?)?
-        .checked_add(d.z.checked_mul(d.z)?)
-}
-
-// The least of W D · (a − b) over the corners b of the second body.
+// The least of W D · (a − b) over the corners b of the second body: nothing where one does not fit.
 fn least(found: &Measurement, a: Corner, second: &[Corner]) -> Option<i64> {
-    let mut best = None;
-    for b in second {
-        let value = reach(found, a.point(), b.point())?;
-        match best {
-            None => best = Some(value),
-            Some(old) => {
-                if value < old {
-                    best = Some(value);
-                }
-            }
-        }
-    }
-    best
+    second.iter().map(|b| reach(found, a, *b)).min()?
 }
 
 // Why nothing is nearer: for each corner of the first body, the least product with D over all corners of the second is no less than the square of D.
@@ -99,17 +84,13 @@ fn print_stopping_test(
     first: &[Corner],
     second: &[Corner],
 ) -> anyhow::Result<()> {
-    let Some(limit) = square(found) else {
-        return Err(anyhow!("the square of D does not fit"));
-    };
+    let limit = dot(found.d, found.d).context("the square of D does not fit")?;
     println!(rt;
         "  no corners are nearer: W D·(a − b) is at least D·D = {limit} for each corner a of the first and b of the second"
     )?;
     for a in first {
-        let Some(value) = least(found, *a, second) else {
-            return Err(anyhow!("a product does not fit"));
-        };
-        let at = Shown(a.point());
+        let value = least(found, *a, second).context("a product does not fit")?;
+        let at = Shown(Point::from(*a));
         let verdict = if value >= limit {
             "no nearer"
         } else {
@@ -122,16 +103,15 @@ fn print_stopping_test(
 
 // Measures one list of corners against another, and prints the whole answer.
 fn print_gap(rt: &impl Print, first: &[Corner], second: &[Corner]) -> anyhow::Result<()> {
-    let (Some(a), Some(b)) = (Corners::new(first), Corners::new(second)) else {
-        return Err(anyhow!("a body has no corners"));
-    };
+    let a = Corners::new(first).context("a body has no corners")?;
+    let b = Corners::new(second).context("a body has no corners")?;
     match measure(&a, &b) {
         Ok(found) => {
             print_measurement(rt, &found)?;
             print_stopping_test(rt, &found, first, second)
         }
         Err(slip) => {
-            let number = slip.reason.number();
+            let number = u8::from(slip.reason);
             println!(rt; "  refused by {number}")?;
             Ok(())
         }
@@ -139,15 +119,14 @@ fn print_gap(rt: &impl Print, first: &[Corner], second: &[Corner]) -> anyhow::Re
 }
 
 fn run(rt: &impl Print) -> anyhow::Result<()> {
-    let lid = slanted_lid()?;
     println!(rt; "The slanted lid's farthest corner along each direction:")?;
-    print_farthest(rt, &lid, Point { x: 1, y: 0, z: 0 })?;
-    print_farthest(rt, &lid, Point { x: 0, y: -1, z: 0 })?;
-    print_farthest(rt, &lid, Point { x: -1, y: 2, z: 5 })?;
-    print_farthest(rt, &lid, Point { x: 3, y: 0, z: -10 })?;
+    print_farthest(rt, &SLANTED_LID, Point { x: 1, y: 0, z: 0 })?;
+    print_farthest(rt, &SLANTED_LID, Point { x: 0, y: -1, z: 0 })?;
+    print_farthest(rt, &SLANTED_LID, Point { x: -1, y: 2, z: 5 })?;
+    print_farthest(rt, &SLANTED_LID, Point { x: 3, y: 0, z: -10 })?;
     print_farthest(
         rt,
-        &lid,
+        &SLANTED_LID,
         Point {
             x: 2000000000,
             y: -2000000000,
@@ -156,16 +135,15 @@ fn run(rt: &impl Print) -> anyhow::Result<()> {
     )?;
     print_farthest(
         rt,
-        &lid,
+        &SLANTED_LID,
         Point {
             x: 2000000001,
             y: 0,
             z: 0,
         },
     )?;
-    let case = case_with_feet()?;
     println!(rt; "The slanted lid against a case with side feet:")?;
-    print_gap(rt, &lid, &case)?;
+    print_gap(rt, &SLANTED_LID, &CASE_WITH_FEET)?;
     let rows = worked_measurements();
     println!(rt; "Worked measurements that are proved of whatever measures them: {rows}")?;
     Ok(())

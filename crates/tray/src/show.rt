@@ -19,8 +19,6 @@ pub struct Fraction(pub Point, pub i64);
 
 impl fmt::Display for Fraction {
     fn fmt<W: fmt::Write>(&self, f: &mut fmt::Formatter<W>) -> fmt::Result {
-        let Point { x, y, z } = self.0;
-        let w = self.1;
-        write!(f, "({x}, {y}, {z})/{w}")
+        write!(f, "{}/{}", Shown(self.0), self.1)
     }
 }
