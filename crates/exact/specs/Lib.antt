@@ -3,3 +3,4 @@ pub mod Spots
 pub mod Terms
 pub mod Finds
 pub mod Crossed
+pub mod Texts

@@ -10,4 +10,5 @@ pub mod lowest;
 pub mod point;
 pub mod products;
 pub mod scores;
+pub mod texts;
 pub mod too_far;
