@@ -2,14 +2,11 @@
 #![tactic(auto)]
 
 mod shapes;
-mod show;
 
 use crate::shapes::{CASE_WITH_FEET, SLANTED_LID};
-use crate::show::{Fraction, Shown};
 use anyhow::Context;
 use exact::corner::Corner;
 use exact::direction::Direction;
-use exact::gap::Gap;
 use exact::point::Point;
 use exact::scores::farthest;
 use nearest::corners::Corners;
@@ -19,17 +16,16 @@ use worked::worked_measurements;
 
 // The corner of a body that lies farthest along a direction, with its product.
 fn print_farthest(rt: &impl Print, corners: &[Corner], along: Point) -> anyhow::Result<()> {
-    let shown = Shown(along);
     let Ok(direction) = Direction::try_from(along) else {
-        println!(rt; "  along {shown}: beyond 2,000,000,000")?;
+        println!(rt; "  along {along}: beyond 2,000,000,000")?;
         return Ok(());
     };
     if let Some(found) = farthest(corners, direction) {
         let place = found.candidate;
         let product = found.score.0;
         if let Some(corner) = corners.get(place) {
-            let at = Shown(Point::from(*corner));
-            println!(rt; "  along {shown}: corner {place} at {at}, product {product}")?;
+            let at = Point::from(*corner);
+            println!(rt; "  along {along}: corner {place} at {at}, product {product}")?;
         }
     }
     Ok(())
@@ -37,12 +33,11 @@ fn print_farthest(rt: &impl Print, corners: &[Corner], along: Point) -> anyhow::
 
 // The numbers of a measurement and its witnesses; places after these have weight 0.
 fn print_measurement(rt: &impl Print, found: &Measurement) -> anyhow::Result<()> {
-    let difference = Fraction(found.d, found.w);
-    let Gap { p, q } = found.gap;
-    println!(rt; "  nearest difference D / W = {difference}, squared gap p / q = {p}/{q}")?;
+    let (d, w, gap) = (found.d, found.w, found.gap);
+    println!(rt; "  nearest difference D / W = {d}/{w}, squared gap p / q = {gap}")?;
     for witness in found.witnesses.iter().filter(|w| w.weight != 0) {
-        let a = Shown(Point::from(witness.first));
-        let b = Shown(Point::from(witness.second));
+        let a = Point::from(witness.first);
+        let b = Point::from(witness.second);
         let weight = witness.weight;
         println!(rt; "  witness: {a} of the first and {b} of the second, weight {weight}")?;
     }
@@ -90,7 +85,7 @@ fn print_stopping_test(
     )?;
     for a in first {
         let value = least(found, *a, second).context("a product does not fit")?;
-        let at = Shown(Point::from(*a));
+        let at = Point::from(*a);
         let verdict = if value >= limit {
             "no nearer"
         } else {
