@@ -1,4 +1,4 @@
-pub mod Coordinates
+pub mod Turns
 pub mod Reaches
 pub mod Products
 pub mod Sweeps

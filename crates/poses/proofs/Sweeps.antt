@@ -86,7 +86,29 @@ farthest-posed s ps d p h =
     ] in
     go (lt_z (dot d start) (dot d (start +ᵛ v))) refl
 
--- the answer of the part's book, asked along d turned back, gives that of the part in a pose: turned to q, and moved by e to r
-pub found-posed : (s : Pose) (m : Part) (d f : Pt) (c q : PartCorner) (e r : Corner) → f ≡ turned (back s.turn) d → spot q ≡ turned s.turn (spot c) → spot e ≡ farther d s → spot r ≡ spot q +ᵛ spot e → Found spot m f (Ok c) → Found spot (posed s m) d (Ok r)
-found-posed s (Ok ps) d f c q e r h k l is g = subst (Farthest _ d) (sym (is ∙ ap₂ ◌+ᵛ◌ k l)) (farthest-posed s ps d (spot c) (subst (λ v. Farthest ps v (spot c)) h g))
-found-posed s (Err t) d f c q e r h k l is g = absurd g
+-- sums with one number compare as what is added
+lt_sum : (k a b : ℤ) → lt_z (k +ℤ a) (k +ℤ b) ≡ lt_z a b
+lt_sum k a b = go (lt_z (k +ℤ a) (k +ℤ b)) (lt_z a b) refl refl
+  where
+    go : (x y : Bool) → lt_z (k +ℤ a) (k +ℤ b) ≡ x → lt_z a b ≡ y → x ≡ y
+    go true true e f = refl
+    go false false e f = refl
+    go true false e f = absurd (omega (arith, ints))
+    go false true e f = absurd (omega (arith, ints))
+
+-- a corner c at the two ends of the travel, m and n: they compare along d as the ends themselves do
+pub moved_farther : (s : Pose) (d c m n : Pt) (b : Bool) → m ≡ c +ᵛ at s.offset → n ≡ c +ᵛ (at s.offset +ᵛ at s.travel) → lt_z (dot d m) (dot d n) ≡ b → cond b n m ≡ c +ᵛ farther d s
+moved_farther s d c m n b e f t =
+    let start = at s.offset in let end = start +ᵛ at s.travel in
+    let same : lt_z (dot d start) (dot d end) ≡ b =
+    sym (lt_sum (dot d c) (dot d start) (dot d end)) ∙ sym (ap₂ lt_z (ap (dot d) e ∙ dot-sum d c start) (ap (dot d) f ∙ dot-sum d c end)) ∙ t in
+    ap₂ (cond b) f e ∙ both b ∙ ap (λ x. c +ᵛ cond x end start) (sym same)
+  where
+    both : (x : Bool) → cond x (c +ᵛ (at s.offset +ᵛ at s.travel)) (c +ᵛ at s.offset) ≡ c +ᵛ cond x (at s.offset +ᵛ at s.travel) (at s.offset)
+    both true = refl
+    both false = refl
+
+-- the answer of the part's book, asked along d turned back, gives that of the part in a pose: turned to q, and moved to r
+pub found-posed : (s : Pose) (m : Part) (d f : Pt) (c q : PartCorner) (r : Corner) → f ≡ turned (back s.turn) d → spot q ≡ turned s.turn (spot c) → spot r ≡ spot q +ᵛ farther d s → Found spot m f (Ok c) → Found spot (posed s m) d (Ok r)
+found-posed s (Ok ps) d f c q r h k is g = subst (Farthest _ d) (sym (is ∙ ap (λ p. p +ᵛ farther d s) k)) (farthest-posed s ps d (spot c) (subst (λ v. Farthest ps v (spot c)) h g))
+found-posed s (Err t) d f c q r h k is g = absurd g

@@ -1,5 +1,5 @@
 -- Parts in poses: turned, offset, and swept along a travel.
-use Rattle.std.specs.Prelude.{◌≡◌, ◌+◌, Bool, cond, List, ◌++◌, map, ℤ, pos, neg_ℤ, ◌≤ℤ◌, Some, None, Ok, Err, Option, Result, ◌==◌, int_lt, unsigned_abs}
+use Rattle.std.specs.Prelude.{◌≡◌, ◌+◌, Bool, cond, List, ◌++◌, map, ℤ, pos, neg_ℤ, ◌≤ℤ◌, Ok, Err, Result, ◌==◌, int_lt, unsigned_abs}
 use Rattle.refusals.specs.declared.Refusal.{Refusal}
 use Rattle.refusals.specs.Slips.{pose_out_of_range}
 use Rattle.integers.specs.Points.{Pt, ◌+ᵛ◌, dot}
@@ -18,10 +18,10 @@ quarters Quarter = pos 1
 quarters Half = pos 2
 quarters ThreeQuarters = pos 3
 
--- the turn with the number k, or nothing where k is not 0 to 3
-abbrev pub Numbered : ℤ → Option Turn → Type 0
-Numbered k None = pos 0 ≤ℤ k → k ≤ℤ pos 3 → ⊥
-Numbered k (Some t) = quarters t ≡ k
+-- the turn with the number k, or the slip where k is not 0 to 3
+abbrev pub Numbered : ℤ → Result Turn Refusal → Type 0
+Numbered k (Ok t) = quarters t ≡ k
+Numbered k (Err e) = (pos 0 ≤ℤ k → k ≤ℤ pos 3 → ⊥) × (e ≡ pose_out_of_range)
 
 -- p turned about the z axis: (x, y, z) goes to (x, y, z), (−y, x, z), (−x, −y, z) or (y, −x, z)
 abbrev pub turned : Turn → Pt → Pt

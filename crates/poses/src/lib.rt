@@ -1,9 +1,10 @@
 // Parts in poses: turned, offset and swept along a travel, each a body for measuring.
 #![tactic(auto)]
 
+mod ends;
 pub mod measures;
 pub mod pose;
 pub mod posed;
 pub mod ranges;
+mod slip;
 pub mod turn;
-pub mod turns;

@@ -11,7 +11,6 @@ use exact::corner::Corner;
 use exact::direction::Direction;
 use nearest::body::Body;
 use parts::book::PartBook;
-use exact::corner::PartCorner;
 use refusals::Refusal;
 
 // The part of this number of a book, in a pose.
@@ -34,18 +33,6 @@ impl<'a, B: PartBook> Posed<'a, B> {
     }
 }
 
-// A corner of a turned part, moved.
-fn moved(corner: PartCorner, by: Corner) -> Corner
-    requires { Near 9 (spot by) }
-    ensures { spot result ≡ spot corner +ᵛ spot by }
-{
-    Corner {
-        x: corner.x + by.x,
-        y: corner.y + by.y,
-        z: corner.z + by.z,
-    }
-}
-
 // A posed part is measured by its turned, offset and swept corners.
 impl<'a, B: PartBook> Body for Posed<'a, B> {
     ghost corners = { λ p. posed_as p.pose (B.Meaning.meaning p.book.now p.part) };
@@ -54,7 +41,6 @@ impl<'a, B: PartBook> Body for Posed<'a, B> {
         let turn = self.pose.turn;
         let back = turn.turned_back(direction);
         let found = self.book.farthest_along(self.part, back)?;
-        let shift = self.pose.farther_end(direction);
-        Ok(moved(turn.turned(found), shift))
+        Ok(self.pose.moved(turn.turned(found), direction))
     }
 }

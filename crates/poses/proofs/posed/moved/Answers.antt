@@ -1,8 +1,0 @@
--- The sum, coordinate by coordinate.
-use Rattle.std.proofs.Common.{arith}
-use Rattle.std.proofs.lemmas.Int.{ints}
-use Rattle.poses.proofs.Coordinates.{same}
-use Rattle.poses.proofs.posed.moved.Goals as goal
-
-pub returns : goal.returns
-returns c = same (omega (arith, ints)) (omega (arith, ints)) (omega (arith, ints))
