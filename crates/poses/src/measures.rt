@@ -9,6 +9,7 @@ use parts::book::PartBook;
 use refusals::Refusal;
 
 // The nearest difference of two parts in their poses, or the slip of one that its book refuses: the first part's where both do.
+// The clause spells out each posed part: `Body`'s own `corners` would need both lifetimes named here, and a look into the impl.
 pub fn measure_parts<B: PartBook, C: PartBook>(
     first: &Posed<'_, B>,
     second: &Posed<'_, C>,

@@ -31,9 +31,11 @@ impl Pose {
     pub(crate) fn moved(self, corner: PartCorner, direction: Direction) -> Corner
         ensures { spot result ≡ spot corner +ᵛ farther (heading direction) self }
     {
+        // Both ends of a pose are within ±9.
         let ends = Ends::new(self.offset, self.travel).unwrap();
         let start = corner + ends.start;
         let end = corner + ends.end;
+        // `max_by_key` would hide that the start is taken where the two products are equal.
         if direction.product(end) > direction.product(start) {
             end
         } else {
