@@ -1,4 +1,4 @@
--- What a mirror keeps of a part: that it has corners, how far they reach, which is farthest, and their order.
+-- What a mirror answers of a part: which corner is farthest, and the corners in their order.
 use Rattle.std.specs.Prelude.{◌≡◌, ℕ, ◌<◌, [], ◌∷◌, length, pos, ◌+ℤ◌, IfOk, Ok, Err, Option, refl}
 use Rattle.std.proofs.Common.{sym, ap, ◌∙◌, arith}
 use Rattle.std.specs.Option.{option_map}
@@ -14,18 +14,8 @@ use Rattle.exact.specs.Spots.{PartCorner, spot}
 use Rattle.parts.specs.Books.{Part, corner_of}
 use Rattle.parts.proofs.Blocks.{nth_map}
 use Rattle.parts.proofs.Farthests.{farthest-map}
-use Rattle.layers.specs.Layers.{flipped, mirrored}
-
-pub mirrored-some : (m : Part) → IfOk m (λ ps. 0 < length ps) → IfOk (mirrored m) (λ ps. 0 < length ps)
-mirrored-some (Ok ps) h = omega (arith, length-map ps flipped)
-mirrored-some (Err s) h = tt
-
-flipped-near : (p : Pt) → Near 5 p → Near 5 (flipped p)
-flipped-near p (a, b, c) = (omega (arith, ints), b, c)
-
-pub mirrored-near : (m : Part) → IfOk m (λ ps. AllByRecursion (Near 5) ps) → IfOk (mirrored m) (λ ps. AllByRecursion (Near 5) ps)
-mirrored-near (Ok ps) h = All-map (Near 5) flipped ps (All-weaker (Near 5) (λ p. Near 5 (flipped p)) flipped-near ps h)
-mirrored-near (Err s) h = tt
+use Rattle.parts.specs.Moves.{flipped}
+use Rattle.layers.specs.Layers.{mirrored}
 
 -- to flip a corner is to flip the direction
 dot-flipped : (d p : Pt) → dot d (flipped p) ≡ dot (flipped d) p +ℤ pos 0
