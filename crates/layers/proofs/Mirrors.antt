@@ -1,18 +1,10 @@
--- What a mirror answers of a part: which corner is farthest, and the corners in their order.
-use Rattle.std.specs.Prelude.{◌≡◌, ℕ, ◌<◌, [], ◌∷◌, length, pos, ◌+ℤ◌, IfOk, Ok, Err, Option, refl}
-use Rattle.std.proofs.Common.{sym, ap, ◌∙◌, arith}
-use Rattle.std.specs.Option.{option_map}
-use Rattle.std.specs.List.{AllByRecursion, slice_get}
-use Rattle.std.proofs.ByRecursion.{All-map, All-weaker}
-use Rattle.std.proofs.lemmas.List.{length-map}
-use Rattle.std.proofs.lemmas.Int.{ints}
+-- What a mirror answers of a part: which corner is farthest.
+use Rattle.std.specs.Prelude.{◌≡◌, [], ◌∷◌, pos, ◌+ℤ◌, Ok, Err, refl}
 use Rattle.integers.specs.Points.{Pt, dot}
-use Rattle.integers.specs.Space.{Near}
 use Rattle.integers.proofs.Solver.{solve, var, neg, con, ◌⊕◌, ◌⊗◌}
 use Rattle.convex.specs.Hulls.{Found}
 use Rattle.exact.specs.Spots.{PartCorner, spot}
-use Rattle.parts.specs.Books.{Part, corner_of}
-use Rattle.parts.proofs.Blocks.{nth_map}
+use Rattle.parts.specs.Books.{Part}
 use Rattle.parts.proofs.Farthests.{farthest-map}
 use Rattle.parts.specs.Moves.{flipped}
 use Rattle.layers.specs.Layers.{mirrored}
@@ -25,8 +17,3 @@ dot-flipped d p = solve (d.x ∷ d.y ∷ d.z ∷ p.x ∷ p.y ∷ p.z ∷ []) (va
 pub mirrored-found : (m : Part) (d e : Pt) (c r : PartCorner) → e ≡ flipped d → spot r ≡ flipped (spot c) → Found spot m e (Ok c) → Found spot (mirrored m) d (Ok r)
 mirrored-found (Ok ps) d e c r way is h = rw is (farthest-map flipped d (flipped d) (pos 0) (dot-flipped d) ps (spot c) (rw way at h))
 mirrored-found (Err s) d e c r way is h = absurd h
-
--- the corners in the same order
-pub mirrored_corner : (m : Part) (k : ℕ) (c : Option Pt) → Ok c ≡ corner_of m k → Ok (option_map flipped c) ≡ corner_of (mirrored m) k
-mirrored_corner (Ok ps) k c e = let h : c ≡ slice_get ps k = cc in ap (λ o. Ok (option_map flipped o)) h ∙ ap Ok (sym (nth_map flipped ps k))
-mirrored_corner (Err s) k c e = let z : ◌≡◌ {A = ℕ} 0 1 = cc in absurd (omega arith)

@@ -1,11 +1,11 @@
 -- What the swell layer answers of a part: whether it fits, which corner is farthest, and the corners in their order.
-use Rattle.std.specs.Prelude.{◌≡◌, ℕ, ◌+◌, ◌*◌, ◌/◌, ◌%◌, ◌<◌, ◌≤◌, Bool, true, false, List, [], ◌∷◌, ◌++◌, length, ℤ, pos, ◌+ℤ◌, ◌-ℤ◌, neg_ℤ, ◌≤ℤ◌, IfOk, Some, Ok, Err, Decides, None, Option, Result, ◌≢◌, unsigned_abs, refl}
+use Rattle.std.specs.Prelude.{◌≡◌, ℕ, ◌+◌, ◌/◌, ◌%◌, ◌≤◌, Bool, true, false, List, [], ◌∷◌, ◌++◌, ℤ, pos, ◌+ℤ◌, ◌-ℤ◌, neg_ℤ, ◌≤ℤ◌, Some, Ok, Err, Decides, None, Option, ◌≢◌, unsigned_abs, refl}
 use Rattle.std.proofs.Common.{sym, ap, ◌∙◌, div-add-mod', arith}
 use Rattle.std.specs.Option.{option_map, ForSome}
 use Rattle.std.specs.List.{flat_map, AllByRecursion, slice_get}
-use Rattle.std.proofs.ByRecursion.{All-map, All-weaker, all-has}
+use Rattle.std.proofs.ByRecursion.{All-weaker, all-has}
 use Rattle.std.proofs.lemmas.Int.{ints}
-use Rattle.std.proofs.lemmas.Bool.{cond-true, cond-false, cond_both}
+use Rattle.std.proofs.lemmas.Bool.{cond-true, cond-false}
 use Rattle.std.proofs.lemmas.Bool.Decides.{Decides-like}
 use Rattle.refusals.specs.declared.Refusal.{Refusal}
 use Rattle.refusals.specs.Slips.{swelled_too_far}
@@ -101,12 +101,9 @@ widened-farthest m d p ps h = record {
 
 -- ---- what the layer answers
 -- the slip of a part without room
-pub swelled-refused : (m n : ℕ) (d : Pt) (M : Part) (s : Refusal) → Cleared {X = Unit {0}} (Roomy m) n M (Err s) → Found spot (swelled m n M) d (Err s)
+pub swelled-refused : (m n : ℕ) (d : Pt) (M : Part) (s : Refusal) → Cleared {X = Unit {0}} (Roomy m) n M (Err s) → Found (spot {n = 5}) (swelled m n M) d (Err s)
 swelled-refused m n d (Ok ps) s (e, h) = rw (swelled_not m n ps h) e
 swelled-refused m n d (Err t) s e = cc
-
-refused : (s : Refusal) → ◌≡◌ {A = Result (Unit {0}) Refusal} (Ok tt) (Err s) → ⊥
-refused s e = let z : ◌≡◌ {A = ℕ} 0 1 = cc in omega arith
 
 -- a farthest corner of a part with room has room
 pub found-roomy : (m n : ℕ) (d : Pt) (M : Part) (c : PartCorner) → Cleared {X = Unit {0}} (Roomy m) n M (Ok tt) → Found spot M d (Ok c) → Roomy m (spot c)
@@ -126,7 +123,7 @@ swelled_corner_refused m n k (Err t) s e = cc
 -- a corner of a part with room has room
 pub corner_roomy : (m n q : ℕ) (M : Part) (o : Option PartCorner) → Cleared {X = Unit {0}} (Roomy m) n M (Ok tt) → Ok (option_map spot o) ≡ corner_of M q → ForSome o (λ c. Roomy m (spot c))
 corner_roomy m n q (Ok ps) o h e c is = all-has (Roomy m) ps (spot c) h (nth_has ps q (spot c) (cc))
-corner_roomy m n q (Err s) o h e c is = absurd (refused s h)
+corner_roomy m n q (Err s) o h e c is = absurd (cc)
 
 -- the k-th corner is the one of number k mod 8 of the (k div 8)-th below, widened
 pub swelled_corner : (m n k : ℕ) (M : Part) (o : Octant) (c : Option Pt) → Cleared {X = Unit {0}} (Roomy m) n M (Ok tt) → slice_get octants (k % 8) ≡ Some o → Ok c ≡ corner_of M (k / 8)
@@ -138,4 +135,4 @@ swelled_corner m n k (Ok ps) o c h is e =
     here : (c : Option Pt) → option_map (λ p. vertex (p -ᵛ cube m) (p +ᵛ cube m) o) c ≡ in_block (widened m) c (k % 8)
     here None = refl
     here (Some p) = sym (box_nth (p -ᵛ cube m) (p +ᵛ cube m) (k % 8) o is)
-swelled_corner m n k (Err s) o c h is e = absurd (refused s h)
+swelled_corner m n k (Err s) o c h is e = absurd (cc)

@@ -23,12 +23,24 @@ pub struct Swell<B> {
 
 // The six directions along the axes.
 const AXES: [Direction; 6] = [
-    Direction { along: Point { x: 1, y: 0, z: 0 } },
-    Direction { along: Point { x: -1, y: 0, z: 0 } },
-    Direction { along: Point { x: 0, y: 1, z: 0 } },
-    Direction { along: Point { x: 0, y: -1, z: 0 } },
-    Direction { along: Point { x: 0, y: 0, z: 1 } },
-    Direction { along: Point { x: 0, y: 0, z: -1 } },
+    Direction {
+        along: Point { x: 1, y: 0, z: 0 },
+    },
+    Direction {
+        along: Point { x: -1, y: 0, z: 0 },
+    },
+    Direction {
+        along: Point { x: 0, y: 1, z: 0 },
+    },
+    Direction {
+        along: Point { x: 0, y: -1, z: 0 },
+    },
+    Direction {
+        along: Point { x: 0, y: 0, z: 1 },
+    },
+    Direction {
+        along: Point { x: 0, y: 0, z: -1 },
+    },
 ];
 
 // A corner moved by as many steps along each axis.

@@ -5,6 +5,7 @@ use Rattle.std.specs.Option.{option_map}
 use Rattle.std.specs.List.{ContainsAt as Has, AllByRecursion, slice_get}
 use Rattle.std.proofs.ByRecursion.{All-map}
 use Rattle.std.proofs.lemmas.Int.{ints}
+use Rattle.std.proofs.lemmas.Option.{slice_get-map}
 use Rattle.integers.specs.Points.{Pt, dot}
 use Rattle.integers.specs.Space.{Near}
 use Rattle.integers.proofs.Solver.{var, con, ◌⊗◌, ◌⊖◌}
@@ -12,7 +13,6 @@ use Rattle.integers.proofs.Order.{≤ℤ_of_≡, solve≤, *ℤ_nonneg, gap, *�
 use Rattle.parts.specs.declared.octant.Side.{Side}
 use Rattle.parts.specs.declared.octant.Side.TheVariants.{Low, High}
 use Rattle.parts.specs.declared.octant.Octant.{Octant}
-use Rattle.parts.proofs.Blocks.{nth_map}
 use Rattle.parts.specs.Boxes.{taken, vertex, octants, box, side, towards}
 
 -- l is nowhere above h
@@ -89,4 +89,4 @@ box-near n l h a b = box-all (Near n) l h (λ o. vertex-near n l h o a b)
 
 -- the corner of a box by its number
 pub box_nth : (l h : Pt) (k : ℕ) (o : Octant) → slice_get octants k ≡ Some o → slice_get (box l h) k ≡ Some (vertex l h o)
-box_nth l h k o e = nth_map (vertex l h) octants k ∙ ap (option_map (vertex l h)) e
+box_nth l h k o e = slice_get-map (vertex l h) octants k ∙ ap (option_map (vertex l h)) e
