@@ -6,6 +6,8 @@ use Rattle.refusals.specs.declared.Refusal.{Refusal}
 use Rattle.refusals.specs.Slips.{part_missing}
 use Rattle.integers.specs.Points.{Pt}
 use Rattle.exact.specs.Space.{at}
+use Rattle.exact.specs.Spots.{spot}
+use Rattle.parts.specs.declared.block.Block.{Block}
 use Rattle.parts.specs.Boxes.{box}
 use Rattle.parts.specs.Limits.{is_near}
 use Rattle.parts.specs.Books.{Part}
@@ -18,6 +20,10 @@ each_at_most a b = int_le a.x b.x && (int_le a.y b.y && int_le a.z b.z)
 -- whether the entry is part n's, low is nowhere above high, and no coordinate is beyond ±5; any other entry is skipped
 abbrev pub counts_for_part : ℕ → Entry → Bool
 counts_for_part n e = e.part == n && ((is_near 5 (at e.low) && is_near 5 (at e.high)) && each_at_most (at e.low) (at e.high))
+
+-- where the low and the high corner of a block lie
+abbrev pub ends : Block → Pt × Pt
+ends b = (spot b.low, spot b.high)
 
 -- the eight corners of an entry
 abbrev pub corners_of : Entry → List Pt

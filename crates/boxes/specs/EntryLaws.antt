@@ -1,24 +1,19 @@
 -- What an entry that counts says of its box, and which corners a part has.
-use Rattle.std.proofs.Common.{◌≡◌, ℕ, ◌<◌, ◌≤◌, Bool, true, false, cond, ◌&&◌, eqb, List, [], ◌∷◌, length, ℤ, nat_abs, ◌≤ℤ◌, IfOk, Some, None, filter, Option, sym, refl, ap, ◌∙◌, arith}
+use Rattle.std.proofs.Common.{◌≡◌, ℕ, ◌<◌, true, ◌&&◌, eqb, List, [], ◌∷◌, length, ℤ, ◌≤ℤ◌, IfOk, filter, arith}
 use lib.Signed.{le_z}
 use Rattle.std.specs.List.{AllByRecursion}
-use Rattle.std.proofs.ByRecursion.{All-map}
+use Rattle.std.proofs.ByRecursion.{All-weaker, kept_by_passes}
 use Rattle.std.proofs.lemmas.Int.{ints}
-use Rattle.std.proofs.lemmas.Bool.{and_parts, cond-true}
+use Rattle.std.proofs.lemmas.Bool.{and_parts}
 use Rattle.refusals.specs.declared.Refusal.{Refusal}
 use Rattle.refusals.specs.declared.Layer.TheVariants.{BoxBook}
 use Rattle.refusals.specs.Slips.{part_missing}
 use Rattle.integers.specs.Points.{Pt}
 use Rattle.integers.specs.Space.{Near}
 use Rattle.exact.specs.Space.{at}
-use Rattle.exact.specs.Spots.{Kept}
-use Rattle.parts.specs.declared.octant.Octant.{Octant}
-use Rattle.parts.specs.declared.octant.Side.{Side}
-use Rattle.parts.specs.declared.octant.Side.TheVariants.{Low, High}
-use Rattle.parts.specs.Boxes.{taken, vertex, octants}
 use Rattle.parts.specs.Limits.{is_near}
 use Rattle.parts.proofs.Limits.{decides_near}
-use Rattle.parts.proofs.Boxes.{Under}
+use Rattle.parts.proofs.Boxes.{Under, box-near}
 use Rattle.parts.proofs.Blocks.{all_joined}
 use Rattle.boxes.specs.declared.entry.Entry.{Entry}
 use Rattle.boxes.specs.Entries.{each_at_most, counts_for_part, corners_of, listed, corners_or, boxed}
@@ -45,54 +40,22 @@ counted n e h =
     let (l, k) = and_parts (is_near 5 (at e.low)) (is_near 5 (at e.high)) near in
     record { low = (decides_near 5 (at e.low)).0 l; high = (decides_near 5 (at e.high)).0 k; under = under (at e.low) (at e.high) u }
 
--- each corner of its box is within ±5
-pub vertex-near : (n : ℕ) (l h : Pt) (o : Octant) → Near n l → Near n h → Near n (vertex l h o)
-vertex-near n l h o a b = (at_side l.x h.x o.x a.0 b.0, at_side l.y h.y o.y a.1 b.1, at_side l.z h.z o.z a.2 b.2)
-  where
-    at_side : (k m : ℤ) (s : Side) → nat_abs k ≤ n → nat_abs m ≤ n → nat_abs (taken s k m) ≤ n
-    at_side k m Low p q = p
-    at_side k m High p q = q
-
-kept : (p q : Pt) (r : Option Pt) → q ≡ p → Near 5 p → Kept 5 q r → r ≡ Some p
-kept p q None e h k = absurd (k (rw e h))
-kept p q (Some r) e h k = ap Some (k.1 ∙ e)
-
--- so the corner is made
-pub vertex_made : (n : ℕ) (e : Entry) (o : Octant) (q : Pt) (r : Option Pt) → counts_for_part n e ≡ true → q ≡ vertex (at e.low) (at e.high) o → Kept 5 q r → r ≡ cond (counts_for_part n e) (Some (vertex (at e.low) (at e.high) o)) None
-vertex_made n e o q r h is k =
-    let c = counted n e h in
-    kept (vertex (at e.low) (at e.high) o) q r is (vertex-near 5 (at e.low) (at e.high) o c.low c.high) k ∙ sym (cond-true (counts_for_part n e) _ _ h)
-
--- ---- the laws of a part
-some_of : (s : Refusal) (ps : List Pt) → IfOk (corners_or s ps) (λ qs. 0 < length qs)
-some_of s [] = tt
-some_of s (p ∷ ps) = omega arith
+-- ---- the corners of a part
+some_or : (s : Refusal) (ps : List Pt) → IfOk (corners_or s ps) (λ qs. 0 < length qs)
+some_or s [] = tt
+some_or s (p ∷ ps) = omega arith
 
 pub boxed-some : (es : List Entry) (n : ℕ) → IfOk (boxed es n) (λ ps. 0 < length ps)
-boxed-some es n = some_of (part_missing BoxBook n) (listed n es)
+boxed-some es n = some_or (part_missing BoxBook n) (listed n es)
 
-near_of : (s : Refusal) (ps : List Pt) → AllByRecursion (Near 5) ps → IfOk (corners_or s ps) (λ qs. AllByRecursion (Near 5) qs)
-near_of s [] h = tt
-near_of s (p ∷ ps) h = h
+near_or : (s : Refusal) (ps : List Pt) → AllByRecursion (Near 5) ps → IfOk (corners_or s ps) (λ qs. AllByRecursion (Near 5) qs)
+near_or s [] h = tt
+near_or s (p ∷ ps) h = h
 
 corners-near : (n : ℕ) (e : Entry) → counts_for_part n e ≡ true → AllByRecursion (Near 5) (corners_of e)
-corners-near n e t = let c = counted n e t in All-map (Near 5) (vertex (at e.low) (at e.high)) octants (every c.low c.high octants)
-  where
-    every : Near 5 (at e.low) → Near 5 (at e.high) → (os : List Octant) → AllByRecursion (λ o. Near 5 (vertex (at e.low) (at e.high) o)) os
-    every l h [] = tt
-    every l h (o ∷ os) = (vertex-near 5 (at e.low) (at e.high) o l h, every l h os)
-
-pub kept-all : {X : Type 0} (test : X → Bool) (Q : X → Type 0) (xs : List X) → AllByRecursion (λ x. test x ≡ true → Q x) xs → AllByRecursion Q (filter test xs)
-kept-all test Q [] h = tt
-kept-all test Q (x ∷ xs) h = go (test x) refl (kept-all test Q xs h.1)
-  where
-    go : (b : Bool) → test x ≡ b → AllByRecursion Q (filter test xs) → AllByRecursion Q (cond b (x ∷ filter test xs) (filter test xs))
-    go true e r = (h.0 e, r)
-    go false e r = r
+corners-near n e t = let c = counted n e t in box-near 5 (at e.low) (at e.high) c.low c.high
 
 pub boxed-near : (es : List Entry) (n : ℕ) → IfOk (boxed es n) (λ ps. AllByRecursion (Near 5) ps)
-boxed-near es n = near_of (part_missing BoxBook n) (listed n es) (all_joined (Near 5) corners_of (filter (counts_for_part n) es) (kept-all (counts_for_part n) (λ e. AllByRecursion (Near 5) (corners_of e)) es (every es)))
-  where
-    every : (es : List Entry) → AllByRecursion (λ e. counts_for_part n e ≡ true → AllByRecursion (Near 5) (corners_of e)) es
-    every [] = tt
-    every (e ∷ es) = (corners-near n e, every es)
+boxed-near es n =
+    near_or (part_missing BoxBook n) (listed n es) (all_joined (Near 5) corners_of (filter (counts_for_part n) es)
+    (All-weaker (λ e. counts_for_part n e ≡ true) (λ e. AllByRecursion (Near 5) (corners_of e)) (corners-near n) (filter (counts_for_part n) es) (kept_by_passes (counts_for_part n) es)))

@@ -1,15 +1,17 @@
 // The box book over a list of entries that the caller lends.
-ghost use Rattle.std.specs.Prelude.{◌≡◌};
+ghost use Rattle.std.specs.Prelude.{◌≡◌, filter};
+ghost use Rattle.std.specs.Option.{option_copied};
+ghost use Rattle.std.specs.List.{slice_get};
 ghost use Rattle.refusals.specs.declared.Layer.TheVariants.{BoxBook as of_box_book};
 ghost use Rattle.refusals.specs.Slips.{part_missing};
-ghost use Rattle.boxes.specs.Entries.{boxed};
+ghost use Rattle.boxes.specs.Entries.{boxed, counts_for_part};
 ghost use Rattle.boxes.specs.EntryLaws.{boxed-some, boxed-near};
 
 use crate::entry::Entry;
 use crate::reach::Reach;
+use exact::corner::PartCorner;
 use exact::direction::Direction;
 use parts::book::{Meaning, PartBook};
-use exact::corner::PartCorner;
 use parts::octant::Octant;
 use refusals::{Layer, Reason, Refusal};
 use search::listed::first_best_of;
@@ -27,6 +29,13 @@ impl<'a> BoxBook<'a> {
     {
         BoxBook { entries }
     }
+
+    // The k-th from 0 of the entries that count for a part.
+    fn entry_of(&self, part: u16, k: usize) -> Option<&Entry>
+        ensures { option_copied result ≡ slice_get (filter (counts_for_part part) self.now.entries.now) k }
+    {
+        self.entries.iter().filter(|e| e.counts_for(part)).nth(k)
+    }
 }
 
 // The slip for a part that no entry counts for.
@@ -36,7 +45,7 @@ fn no_such_part(part: u16) -> Refusal
     Refusal {
         reason: Reason::NoSuchPart,
         layer: Layer::BoxBook,
-        place: part as u32,
+        place: u32::from(part),
     }
 }
 
@@ -50,33 +59,16 @@ impl<'a> Meaning for BoxBook<'a> {
 
 impl<'a> PartBook for BoxBook<'a> {
     fn farthest_along(&self, part: u16, direction: Direction) -> Result<PartCorner, Refusal> {
-        let entries = self.entries;
-        let Some(best) = first_best_of(entries, Reach { part, direction }) else {
-            return Err(no_such_part(part));
-        };
-        let place = best.candidate;
-        match entries[place].vertex_for(part, Octant::towards(direction)) {
-            Some(c) => Ok(c),
-            None => Err(no_such_part(part)),
-        }
+        let octant = Octant::towards(direction);
+        first_best_of(self.entries, Reach { part, direction })
+            .and_then(|best| self.entries[best.candidate].vertex_for(part, octant))
+            .ok_or(no_such_part(part))
     }
 
     fn corner(&self, part: u16, k: usize) -> Result<Option<PartCorner>, Refusal> {
-        let mut left = k;
-        let mut known = false;
-        for entry in self.entries {
-            if let Some(c) = entry.vertex_for(part, Octant::numbered(left)) {
-                if left < 8 {
-                    return Ok(Some(c));
-                }
-                left -= 8;
-                known = true;
-            }
-        }
-        if known {
-            Ok(None)
-        } else {
-            Err(no_such_part(part))
-        }
+        self.entry_of(part, 0).ok_or(no_such_part(part))?;
+        let octant = Octant::numbered(k);
+        let entry = self.entry_of(part, k / 8);
+        Ok(entry.and_then(|e| e.vertex_for(part, octant)))
     }
 }

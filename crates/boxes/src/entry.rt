@@ -1,14 +1,15 @@
 // A box of a part, by its low and its high corner.
 ghost use Rattle.std.specs.Prelude.{◌≡◌, if◌then◌else◌, Some, None};
 ghost use Rattle.std.specs.Option.{option_map};
-ghost use Rattle.parts.specs.Boxes.{taken, vertex};
+ghost use Rattle.parts.specs.Boxes.{vertex};
 ghost use Rattle.exact.specs.Spots.{spot};
 ghost use Rattle.exact.specs.Space.{at};
-ghost use Rattle.boxes.specs.Entries.{each_at_most, counts_for_part};
+ghost use Rattle.boxes.specs.Entries.{ends, each_at_most, counts_for_part};
 
-use exact::point::Point;
 use exact::corner::PartCorner;
-use parts::octant::{Octant, Side};
+use exact::point::Point;
+use parts::block::Block;
+use parts::octant::Octant;
 
 // An entry of a box book: any numbers may stand in it.
 #[derive(Clone, Copy)]
@@ -18,52 +19,39 @@ pub struct Entry {
     pub high: Point,
 }
 
-// Whether no coordinate of a is above that of b.
-fn is_under(a: Point, b: Point) -> bool
-    ensures { result ≡ each_at_most (at a) (at b) }
+// Whether no coordinate of the low corner is above that of the high one.
+fn is_upright(block: Block) -> bool
+    ensures { result ≡ each_at_most (spot block.low) (spot block.high) }
 {
-    let (x, y, z) = (a.x <= b.x, a.y <= b.y, a.z <= b.z);
-    x & (y & z)
-}
-
-// What a side takes of two coordinates.
-fn take(side: Side, low: i64, high: i64) -> i64
-    ensures { result ≡ taken side low high }
-{
-    match side {
-        Side::Low => low,
-        Side::High => high,
-    }
-}
-
-// The corner of the box from low to high.
-fn vertex_between(low: Point, high: Point, octant: Octant) -> Point
-    ensures { at result ≡ vertex (at low) (at high) octant }
-{
-    Point {
-        x: take(octant.x, low.x, high.x),
-        y: take(octant.y, low.y, high.y),
-        z: take(octant.z, low.z, high.z),
-    }
+    let (low, high) = (block.low, block.high);
+    low.x <= high.x && low.y <= high.y && low.z <= high.z
 }
 
 impl Entry {
-    // Whether the entry counts for a part: it is the part's, low is nowhere above high, and no coordinate is beyond ±5.
+    // The box, where the entry counts for a part: it is the part's, no coordinate is beyond ±5, and low is nowhere above high.
+    fn block_for(self, part: u16) -> Option<Block>
+        ensures { option_map ends result ≡ (if counts_for_part part self then Some (at self.low, at self.high) else None) }
+    {
+        if self.part != part {
+            return None;
+        }
+        let low = PartCorner::try_from(self.low).ok()?;
+        let high = PartCorner::try_from(self.high).ok()?;
+        let block = Block { low, high };
+        is_upright(block).then_some(block)
+    }
+
+    // Whether the entry counts for a part.
     pub fn counts_for(self, part: u16) -> bool
         ensures { result ≡ counts_for_part part self }
     {
-        let near = self.low.is_within(5) & self.high.is_within(5);
-        (self.part == part) & (near & is_under(self.low, self.high))
+        self.block_for(part).is_some()
     }
 
     // A corner of the box, or nothing where the entry does not count for the part.
     pub fn vertex_for(self, part: u16, octant: Octant) -> Option<PartCorner>
         ensures { option_map spot result ≡ (if counts_for_part part self then Some (vertex (at self.low) (at self.high) octant) else None) }
     {
-        if self.counts_for(part) {
-            PartCorner::new(vertex_between(self.low, self.high, octant))
-        } else {
-            None
-        }
+        self.block_for(part).map(|block| block.corner(octant))
     }
 }

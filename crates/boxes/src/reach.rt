@@ -21,10 +21,7 @@ impl Scoring<Entry> for Reach {
     ghost score_of = { λ s e. reach_of s.part (heading s.direction) e };
 
     fn score(&self, element: &Entry) -> Option<Product> {
-        let octant = Octant::towards(self.direction);
-        match element.vertex_for(self.part, octant) {
-            Some(c) => Some(Product(self.direction.product(c.on_table()))),
-            None => None,
-        }
+        let farthest = element.vertex_for(self.part, Octant::towards(self.direction));
+        farthest.map(|c| Product(self.direction.product(c.into())))
     }
 }

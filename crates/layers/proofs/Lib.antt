@@ -1,1 +1,3 @@
+pub mod Mirrors
+pub mod Swells
 pub mod Rooms

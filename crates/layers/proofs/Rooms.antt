@@ -1,15 +1,17 @@
 -- How the swell layer finds out whether a part has room: from its farthest corners along the six axes.
-use Rattle.std.proofs.Common.{◌≡◌, ℕ, true, false, List, [], ◌∷◌, ℤ, pos, negsuc, ◌-ℤ◌, ◌≤ℤ◌, Ok, Err, Result, sym, refl, subst, arith}
+use Rattle.std.proofs.Common.{◌≡◌, ℕ, true, false, List, [], ◌∷◌, map, length, get_or, take, ◌<◌, ◌≤◌, ℤ, pos, negsuc, ◌-ℤ◌, ◌≤ℤ◌, Ok, Err, sym, refl, subst, arith}
 use lib.Signed.{lt_z}
 use Rattle.std.specs.List.{AllByRecursion}
-use Rattle.std.proofs.ByRecursion.{all-has, All-weaker}
+use Rattle.std.proofs.ByRecursion.{all-has, All-weaker, All-get_or, All-map}
+use Rattle.std.proofs.lemmas.List.{get_or-map, length-map, take_all}
 use Rattle.std.proofs.lemmas.Int.{ints}
 use Rattle.refusals.specs.declared.Refusal.{Refusal}
 use Rattle.refusals.specs.Slips.{swelled_too_far}
 use Rattle.integers.specs.Points.{Pt, dot}
 use Rattle.integers.proofs.Order.{≤ℤ_trans}
 use Rattle.convex.specs.Hulls.{Found}
-use Rattle.exact.specs.Spots.{PartCorner, spot}
+use Rattle.exact.specs.declared.direction.Direction.{Direction}
+use Rattle.exact.specs.Spots.{PartCorner, spot, heading}
 use Rattle.parts.specs.Books.{Part}
 use Rattle.layers.specs.Swells.{Inside, Roomy, Cleared}
 
@@ -29,44 +31,49 @@ has_room m n d (Ok ps) c e f = All-weaker (λ p. dot d p ≤ℤ dot d (spot c)) 
 has_room m n d (Err s) c e f = absurd f
 
 -- ---- along the six axes
-abbrev axis : ℤ → ℤ → ℤ → Pt
-axis x y z = record { x = x; y = y; z = z }
-
-abbrev pub Sixfold : ℕ → Pt → Type 0
-Sixfold m p =
-    Inside m (axis (pos 1) (pos 0) (pos 0)) p
-    × Inside m (axis (negsuc 0) (pos 0) (pos 0)) p
-    × Inside m (axis (pos 0) (pos 1) (pos 0)) p
-    × Inside m (axis (pos 0) (negsuc 0) (pos 0)) p
-    × Inside m (axis (pos 0) (pos 0) (pos 1)) p
-    × Inside m (axis (pos 0) (pos 0) (negsuc 0)) p
+abbrev pub axes : List Pt
+axes =
+    record { x = pos 1; y = pos 0; z = pos 0 }
+    ∷ record { x = negsuc 0; y = pos 0; z = pos 0 }
+    ∷ record { x = pos 0; y = pos 1; z = pos 0 }
+    ∷ record { x = pos 0; y = negsuc 0; z = pos 0 }
+    ∷ record { x = pos 0; y = pos 0; z = pos 1 }
+    ∷ record { x = pos 0; y = pos 0; z = negsuc 0 }
+    ∷ []
 
 -- room on every side is room along each axis
-pub roomy_sixfold : (m : ℕ) (p : Pt) → Roomy m p → Sixfold m p
-roomy_sixfold m p (a, b, c) = (omega (arith, ints), omega (arith, ints), omega (arith, ints), omega (arith, ints), omega (arith, ints), omega (arith, ints))
+roomy-axes : (m : ℕ) (p : Pt) → Roomy m p → AllByRecursion (λ a. Inside m a p) axes
+roomy-axes m p (a, b, c) = (omega (arith, ints), (omega (arith, ints), (omega (arith, ints), (omega (arith, ints), (omega (arith, ints), (omega (arith, ints), tt))))))
 
-sixfold_roomy : (m : ℕ) (p : Pt) → Sixfold m p → Roomy m p
-sixfold_roomy m p (a, b, c, d, e, f) = (omega (arith, ints), omega (arith, ints), omega (arith, ints))
+axes-roomy : (m : ℕ) (p : Pt) → AllByRecursion (λ a. Inside m a p) axes → Roomy m p
+axes-roomy m p (a, (b, (c, (d, (e, (f, _)))))) = (omega (arith, ints), omega (arith, ints), omega (arith, ints))
+
+-- the directions ds are along the axes, and there is room along each of the first i
+pub record Tried (m n : ℕ) (M : Part) (ds : List Direction) (i : ℕ) : Type 0 where
+  pub along : map heading ds ≡ axes
+  pub room : AllByRecursion (λ (d : Direction). Cleared {X = Unit {0}} (Inside m (heading d)) n M (Ok tt)) (take i ds)
 
 -- a slip that is found along one axis is the slip of the whole
-pub blocked : (m n : ℕ) (d e : Pt) (M : Part) (s : Refusal) → d ≡ e → ((p : Pt) → Roomy m p → Inside m e p) → Cleared {X = Unit {0}} (Inside m d) n M (Err s) → Cleared {X = Unit {0}} (Roomy m) n M (Err s)
-blocked m n d e (Ok ps) s is h (k, f) = (k, λ l. f (subst (λ v. AllByRecursion (Inside m v) ps) (sym is) (All-weaker (Roomy m) (Inside m e) h ps l)))
-blocked m n d e (Err t) s is h k = k
-
-refused : (s : Refusal) → ◌≡◌ {A = Result (Unit {0}) Refusal} (Ok tt) (Err s) → ⊥
-refused s e = let z : ◌≡◌ {A = ℕ} 0 1 = cc in omega arith
-
--- room along five axes and along the sixth
-pub cleared : (m n : ℕ) (M : Part) (r : Result (Unit {0}) Refusal) (a b c d e f : Pt)
-    → a ≡ axis (pos 1) (pos 0) (pos 0) → b ≡ axis (negsuc 0) (pos 0) (pos 0) → c ≡ axis (pos 0) (pos 1) (pos 0) → d ≡ axis (pos 0) (negsuc 0) (pos 0) → e ≡ axis (pos 0) (pos 0) (pos 1) → f ≡ axis (pos 0) (pos 0) (negsuc 0)
-    → Cleared {X = Unit {0}} (Inside m a) n M (Ok tt) → Cleared {X = Unit {0}} (Inside m b) n M (Ok tt) → Cleared {X = Unit {0}} (Inside m c) n M (Ok tt) → Cleared {X = Unit {0}} (Inside m d) n M (Ok tt) → Cleared {X = Unit {0}} (Inside m e) n M (Ok tt)
-    → Cleared (Inside m f) n M r → Cleared (Roomy m) n M r
-cleared m n (Err s) r a b c d e f pa pb pc pd pe pf ha hb hc hd he hf = absurd (refused s ha)
-cleared m n (Ok ps) (Err s) a b c d e f pa pb pc pd pe pf ha hb hc hd he hf = blocked m n f _ (Ok ps) s pf (λ p h. (roomy_sixfold m p h).5) hf
-cleared m n (Ok ps) (Ok tt) a b c d e f pa pb pc pd pe pf ha hb hc hd he hf = together ps (rw pa at ha) (rw pb at hb) (rw pc at hc) (rw pd at hd) (rw pe at he) (rw pf at hf)
+pub blocked : (m n k : ℕ) (d : Direction) (M : Part) (ds : List Direction) (s : Refusal) → Tried m n M ds k → k < length ds → Cleared {X = Unit {0}} (Inside m (heading (get_or ds k d))) n M (Err s) → Cleared {X = Unit {0}} (Roomy m) n M (Err s)
+blocked m n k d (Ok ps) ds s t l (e, f) = (e, λ h. f (All-weaker (Roomy m) (Inside m (heading (get_or ds k d))) inside ps h))
   where
-    together : (ps : List Pt)
-        → AllByRecursion (Inside m (axis (pos 1) (pos 0) (pos 0))) ps → AllByRecursion (Inside m (axis (negsuc 0) (pos 0) (pos 0))) ps → AllByRecursion (Inside m (axis (pos 0) (pos 1) (pos 0))) ps
-        → AllByRecursion (Inside m (axis (pos 0) (negsuc 0) (pos 0))) ps → AllByRecursion (Inside m (axis (pos 0) (pos 0) (pos 1))) ps → AllByRecursion (Inside m (axis (pos 0) (pos 0) (negsuc 0))) ps → AllByRecursion (Roomy m) ps
-    together [] a b c d e f = tt
-    together (p ∷ ps) a b c d e f = (sixfold_roomy m p (a.0, b.0, c.0, d.0, e.0, f.0), together ps a.1 b.1 c.1 d.1 e.1 f.1)
+    inside : (p : Pt) → Roomy m p → Inside m (heading (get_or ds k d)) p
+    inside p r =
+        subst (λ a. Inside m a p) (get_or-map heading ds k d (heading d) l)
+        (All-get_or (λ a. Inside m a p) (map heading ds) k (heading d) (omega (arith, length-map ds heading, l)) (subst (AllByRecursion (λ a. Inside m a p)) (sym t.along) (roomy-axes m p r)))
+blocked m n k d (Err t) ds s _ l e = e
+
+-- room along all six is room on every side
+pub cleared : (m n k : ℕ) (M : Part) (ds : List Direction) → Tried m n M ds k → length ds ≤ k → Cleared {X = Unit {0}} (Roomy m) n M (Ok tt)
+cleared m n k M ds t l = whole M (subst (AllByRecursion (λ a. Cleared {X = Unit {0}} (Inside m a) n M (Ok tt))) t.along (All-map (λ a. Cleared {X = Unit {0}} (Inside m a) n M (Ok tt)) heading ds (subst (AllByRecursion (λ (d : Direction). Cleared {X = Unit {0}} (Inside m (heading d)) n M (Ok tt))) (take_all k ds l) t.room)))
+  where
+    together : (ps : List Pt) → AllByRecursion (λ a. AllByRecursion (Inside m a) ps) axes → AllByRecursion (Roomy m) ps
+    together [] h = tt
+    together (p ∷ ps) h = (
+      axes-roomy m p (All-weaker (λ a. AllByRecursion (Inside m a) (p ∷ ps)) (λ a. Inside m a p) (λ a r. r.0) axes h),
+      together ps (All-weaker (λ a. AllByRecursion (Inside m a) (p ∷ ps)) (λ a. AllByRecursion (Inside m a) ps) (λ a r. r.1) axes h),
+    )
+
+    whole : (M : Part) → AllByRecursion (λ a. Cleared {X = Unit {0}} (Inside m a) n M (Ok tt)) axes → Cleared {X = Unit {0}} (Roomy m) n M (Ok tt)
+    whole (Err s) h = h.0
+    whole (Ok ps) h = together ps h

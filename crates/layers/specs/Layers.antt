@@ -1,15 +1,12 @@
 -- What a layer makes of the parts below it.
-use Rattle.std.specs.Prelude.{ℕ, ◌-◌, cond, List, map, pos, neg_ℤ, Ok, Err, nat_le}
+use Rattle.std.specs.Prelude.{ℕ, ◌-◌, cond, List, map, pos, Ok, Err, nat_le}
 use Rattle.std.specs.List.{flat_map}
 use Rattle.refusals.specs.Slips.{swelled_too_far}
 use Rattle.integers.specs.Points.{Pt, ◌+ᵛ◌, ◌-ᵛ◌}
+use Rattle.parts.specs.Moves.{flipped}
 use Rattle.parts.specs.Boxes.{box}
 use Rattle.parts.specs.Limits.{are_near}
 use Rattle.parts.specs.Books.{Part}
-
--- x negated
-abbrev pub flipped : Pt → Pt
-flipped p = record { x = neg_ℤ p.x; y = p.y; z = p.z }
 
 -- every corner with x negated
 abbrev pub mirrored : Part → Part

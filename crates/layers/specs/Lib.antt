@@ -1,5 +1,3 @@
 pub mod Layers
 pub mod Swells
-pub mod Mirrors
-pub mod SwellsLemmas
-pub mod Joins
+pub mod Laws

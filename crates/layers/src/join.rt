@@ -1,13 +1,13 @@
 // The join layer: one book's parts up to a number, and after them another book's.
-ghost use Rattle.std.specs.Prelude.{◌<◌, length};
+ghost use Rattle.std.specs.Prelude.{◌≡◌, ◌-◌, ◌<◌, length, if◌then◌else◌, Some, None, nat_le};
 ghost use Rattle.std.specs.List.{AllByRecursion};
 ghost use Rattle.integers.specs.Space.{Near};
 ghost use Rattle.layers.specs.Layers.{joined_at};
-ghost use Rattle.layers.specs.Joins.{joined_keeps};
+ghost use Rattle.layers.specs.Laws.{joined_keeps};
 
+use exact::corner::PartCorner;
 use exact::direction::Direction;
 use parts::book::{Meaning, PartBook};
-use exact::corner::PartCorner;
 use refusals::Refusal;
 
 // Parts 0 to `last` come from the first book; part n above it is part n − last of the second.
@@ -16,6 +16,15 @@ pub struct Join<B, C> {
     pub first: B,
     pub second: C,
     pub last: u16,
+}
+
+impl<B, C> Join<B, C> {
+    // The number that a part has in the second book, or nothing where it comes from the first.
+    fn in_second(&self, part: u16) -> Option<u16>
+        ensures { result ≡ (if nat_le part self.now.last then None else Some (part - self.now.last)) }
+    {
+        part.checked_sub(self.last).filter(|n| *n > 0)
+    }
 }
 
 impl<B: Meaning, C: Meaning> Meaning for Join<B, C> {
@@ -28,18 +37,16 @@ impl<B: Meaning, C: Meaning> Meaning for Join<B, C> {
 
 impl<B: PartBook, C: PartBook> PartBook for Join<B, C> {
     fn farthest_along(&self, part: u16, direction: Direction) -> Result<PartCorner, Refusal> {
-        if part <= self.last {
-            self.first.farthest_along(part, direction)
-        } else {
-            self.second.farthest_along(part - self.last, direction)
+        match self.in_second(part) {
+            None => self.first.farthest_along(part, direction),
+            Some(n) => self.second.farthest_along(n, direction),
         }
     }
 
     fn corner(&self, part: u16, k: usize) -> Result<Option<PartCorner>, Refusal> {
-        if part <= self.last {
-            self.first.corner(part, k)
-        } else {
-            self.second.corner(part - self.last, k)
+        match self.in_second(part) {
+            None => self.first.corner(part, k),
+            Some(n) => self.second.corner(n, k),
         }
     }
 }

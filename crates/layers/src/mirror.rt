@@ -1,40 +1,17 @@
 // The mirror layer: every corner of the book below with x negated.
-ghost use Rattle.std.specs.Prelude.{◌≡◌};
-ghost use Rattle.exact.specs.Spots.{heading, spot};
-ghost use Rattle.layers.specs.Layers.{flipped, mirrored};
-ghost use Rattle.layers.specs.Mirrors.{mirrored-some, mirrored-near};
+ghost use Rattle.layers.specs.Layers.{mirrored};
+ghost use Rattle.layers.specs.Laws.{mirrored-some, mirrored-near};
 
-use exact::direction::Direction;
-use exact::point::Point;
-use parts::book::{Meaning, PartBook};
 use exact::corner::PartCorner;
+use exact::direction::Direction;
+use parts::book::{Meaning, PartBook};
+use parts::moves::Movable;
 use refusals::Refusal;
 
 // The book below seen in the mirror x = 0.
 #[derive(Clone, Copy, Drop)]
 pub struct Mirror<B> {
     pub book: B,
-}
-
-// The corner with x negated.
-fn flip(c: PartCorner) -> PartCorner
-    ensures { spot result ≡ flipped (spot c) }
-{
-    PartCorner {
-        x: -c.x,
-        y: c.y,
-        z: c.z,
-    }
-}
-
-// The direction with x negated.
-fn flip_direction(d: Direction) -> Direction
-    ensures { heading result ≡ flipped (heading d) }
-{
-    let Point { x, y, z } = d.along;
-    Direction {
-        along: Point { x: -x, y, z },
-    }
 }
 
 impl<B: Meaning> Meaning for Mirror<B> {
@@ -47,14 +24,11 @@ impl<B: Meaning> Meaning for Mirror<B> {
 
 impl<B: PartBook> PartBook for Mirror<B> {
     fn farthest_along(&self, part: u16, direction: Direction) -> Result<PartCorner, Refusal> {
-        let c = self.book.farthest_along(part, flip_direction(direction))?;
-        Ok(flip(c))
+        let c = self.book.farthest_along(part, direction.mirrored())?;
+        Ok(c.mirrored())
     }
 
     fn corner(&self, part: u16, k: usize) -> Result<Option<PartCorner>, Refusal> {
-        match self.book.corner(part, k)? {
-            Some(c) => Ok(Some(flip(c))),
-            None => Ok(None),
-        }
+        Ok(self.book.corner(part, k)?.map(|c| c.mirrored()))
     }
 }

@@ -1,17 +1,17 @@
 // The swell layer: every corner of the book below is replaced by the eight corners of the box that reaches m from it on every side.
-ghost use Rattle.std.specs.Prelude.{◌≡◌, ◌+◌, ◌≤◌, pos, ◌+ℤ◌, ◌-ℤ◌, ◌≤ℤ◌, int_lt, unsigned_abs};
+ghost use Rattle.std.specs.Prelude.{◌≡◌, pos, ◌-ℤ◌, int_lt, unsigned_abs};
 ghost use Rattle.integers.specs.Points.{dot, ◌+ᵛ◌, ◌-ᵛ◌};
 ghost use Rattle.exact.specs.Spots.{heading, spot};
-ghost use Rattle.parts.specs.Boxes.{taken, vertex};
 ghost use Rattle.layers.specs.Layers.{cube, swelled};
 ghost use Rattle.layers.specs.Swells.{Inside, Roomy, Cleared};
-ghost use Rattle.layers.specs.SwellsLemmas.{swelled-some, swelled-near};
+ghost use Rattle.layers.specs.Laws.{swelled-some, swelled-near};
 
+use exact::corner::{Corner, PartCorner};
 use exact::direction::Direction;
 use exact::point::Point;
+use parts::block::Block;
 use parts::book::{Meaning, PartBook};
-use exact::corner::PartCorner;
-use parts::octant::{Octant, Side};
+use parts::octant::Octant;
 use refusals::{Layer, Reason, Refusal};
 
 // The book below, swelled by 0 to 255 steps on every side.
@@ -21,40 +21,50 @@ pub struct Swell<B> {
     pub by: u8,
 }
 
-// A coordinate moved to the low or the high side.
-fn moved(x: i8, by: u8, side: Side) -> i8
-    requires { unsigned_abs x + by ≤ 5 }
-    ensures value { result ≡ taken side (x -ℤ pos by) (x +ℤ pos by) }
-    ensures near { unsigned_abs result ≤ 5 }
-{
-    match side {
-        Side::Low => x - by as i8,
-        Side::High => x + by as i8,
-    }
-}
+// The six directions along the axes.
+const AXES: [Direction; 6] = [
+    Direction {
+        along: Point { x: 1, y: 0, z: 0 },
+    },
+    Direction {
+        along: Point { x: -1, y: 0, z: 0 },
+    },
+    Direction {
+        along: Point { x: 0, y: 1, z: 0 },
+    },
+    Direction {
+        along: Point { x: 0, y: -1, z: 0 },
+    },
+    Direction {
+        along: Point { x: 0, y: 0, z: 1 },
+    },
+    Direction {
+        along: Point { x: 0, y: 0, z: -1 },
+    },
+];
 
-// One of the eight corners that replace a corner.
-fn widen(c: PartCorner, by: u8, octant: Octant) -> PartCorner
-    requires { Roomy by (spot c) }
-    ensures { spot result ≡ vertex (spot c -ᵛ cube by) (spot c +ᵛ cube by) octant }
+// A corner moved by as many steps along each axis.
+fn moved(c: PartCorner, by: i8) -> PartCorner
+    requires { Roomy (unsigned_abs by) (spot c) }
+    ensures { spot result ≡ spot c +ᵛ record { x = by; y = by; z = by } }
 {
     PartCorner {
-        x: moved(c.x, by, octant.x),
-        y: moved(c.y, by, octant.y),
-        z: moved(c.z, by, octant.z),
+        x: c.x + by,
+        y: c.y + by,
+        z: c.z + by,
     }
 }
 
-// A direction along an axis, of three small numbers.
-fn axis(x: i8, y: i8, z: i8) -> Direction
-    ensures { heading result ≡ record { x = x; y = y; z = z } }
+// The box whose eight corners replace a corner.
+fn widened(c: PartCorner, by: u8) -> Block
+    requires { Roomy by (spot c) }
+    ensures low { spot result.low ≡ spot c -ᵛ cube by }
+    ensures high { spot result.high ≡ spot c +ᵛ cube by }
 {
-    Direction {
-        along: Point {
-            x: x as i64,
-            y: y as i64,
-            z: z as i64,
-        },
+    let by = by as i8;
+    Block {
+        low: moved(c, -by),
+        high: moved(c, by),
     }
 }
 
@@ -62,7 +72,7 @@ fn axis(x: i8, y: i8, z: i8) -> Direction
 fn is_beyond(axis: Direction, c: PartCorner, by: u8) -> bool
     ensures { result ≡ int_lt (pos 5 -ℤ pos by) (dot (heading axis) (spot c)) }
 {
-    axis.product(c.on_table()) > 5 - by as i64
+    axis.product(Corner::from(c)) > 5 - i64::from(by)
 }
 
 impl<B: PartBook> Swell<B> {
@@ -75,7 +85,7 @@ impl<B: PartBook> Swell<B> {
             return Err(Refusal {
                 reason: Reason::SwelledTooFar,
                 layer: Layer::Swell,
-                place: part as u32,
+                place: u32::from(part),
             });
         }
         Ok(())
@@ -85,12 +95,10 @@ impl<B: PartBook> Swell<B> {
     fn has_room(&self, part: u16) -> Result<(), Refusal>
         ensures { Cleared (Roomy self.now.by) part (B.Meaning.meaning self.now.book part) result }
     {
-        self.has_room_along(part, axis(1, 0, 0))?;
-        self.has_room_along(part, axis(-1, 0, 0))?;
-        self.has_room_along(part, axis(0, 1, 0))?;
-        self.has_room_along(part, axis(0, -1, 0))?;
-        self.has_room_along(part, axis(0, 0, 1))?;
-        self.has_room_along(part, axis(0, 0, -1))
+        for axis in AXES {
+            self.has_room_along(part, axis)?;
+        }
+        Ok(())
     }
 }
 
@@ -106,14 +114,13 @@ impl<B: PartBook> PartBook for Swell<B> {
     fn farthest_along(&self, part: u16, direction: Direction) -> Result<PartCorner, Refusal> {
         self.has_room(part)?;
         let c = self.book.farthest_along(part, direction)?;
-        Ok(widen(c, self.by, Octant::towards(direction)))
+        Ok(widened(c, self.by).corner(Octant::towards(direction)))
     }
 
     fn corner(&self, part: u16, k: usize) -> Result<Option<PartCorner>, Refusal> {
         self.has_room(part)?;
-        match self.book.corner(part, k / 8)? {
-            Some(c) => Ok(Some(widen(c, self.by, Octant::numbered(k)))),
-            None => Ok(None),
-        }
+        let octant = Octant::numbered(k);
+        let below = self.book.corner(part, k / 8)?;
+        Ok(below.map(|c| widened(c, self.by).corner(octant)))
     }
 }

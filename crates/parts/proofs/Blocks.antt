@@ -1,6 +1,5 @@
 -- Lists that are joined of blocks, as the corners of a part are of its boxes.
-use Rattle.std.proofs.Common.{◌≡◌, ℕ, zero, suc, ◌+◌, ◌*◌, ◌<◌, List, [], ◌∷◌, ◌++◌, map, length, Some, None, Option, sym, refl, ap, ◌∙◌, subst, arith}
-use Rattle.std.specs.Option.{option_map}
+use Rattle.std.proofs.Common.{◌≡◌, ℕ, zero, suc, ◌+◌, ◌*◌, ◌<◌, List, [], ◌∷◌, ◌++◌, length, Some, None, Option, sym, refl, ap, ◌∙◌, subst, arith}
 use Rattle.std.specs.List.{ContainsAt as Has, flat_map, AllByRecursion, slice_get}
 use Rattle.std.proofs.ByRecursion.{All-append, has_append_left, has_append_right}
 
@@ -34,11 +33,6 @@ nth_right (x ∷ xs) ys k = ap (slice_get (x ∷ (xs ++ ys))) (lemma (length xs)
   where
     lemma : (m n : ℕ) → suc m + n ≡ suc (m + n)
     lemma m n = omega arith
-
-pub nth_map : {X Y : Type 0} (f : X → Y) (xs : List X) (k : ℕ) → slice_get (map f xs) k ≡ option_map f (slice_get xs k)
-nth_map f [] k = refl
-nth_map f (x ∷ xs) zero = refl
-nth_map f (x ∷ xs) (suc k) = nth_map f xs k
 
 -- what stands at a place stands in the list
 pub nth_has : {X : Type 0} (xs : List X) (k : ℕ) (x : X) → Some x ≡ slice_get xs k → Has xs x

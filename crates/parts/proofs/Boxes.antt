@@ -1,17 +1,18 @@
 -- The farthest corner of a box: the one that is high exactly where the direction's number is above 0.
-use Rattle.std.proofs.Common.{◌≡◌, ℕ, Bool, true, false, cond, List, [], ◌∷◌, ℤ, pos, ◌+ℤ◌, ◌*ℤ◌, ◌≤ℤ◌, Some, refl, ap, ◌∙◌, arith, lit<}
+use Rattle.std.proofs.Common.{◌≡◌, ℕ, ◌≤◌, Bool, true, false, cond, List, [], ◌∷◌, ℤ, pos, nat_abs, ◌+ℤ◌, ◌*ℤ◌, ◌≤ℤ◌, Some, refl, ap, ◌∙◌, arith, lit<}
 use lib.Signed.{lt_z}
 use Rattle.std.specs.Option.{option_map}
 use Rattle.std.specs.List.{ContainsAt as Has, AllByRecursion, slice_get}
 use Rattle.std.proofs.ByRecursion.{All-map}
 use Rattle.std.proofs.lemmas.Int.{ints}
+use Rattle.std.proofs.lemmas.Option.{slice_get-map}
 use Rattle.integers.specs.Points.{Pt, dot}
+use Rattle.integers.specs.Space.{Near}
 use Rattle.integers.proofs.Solver.{var, con, ◌⊗◌, ◌⊖◌}
 use Rattle.integers.proofs.Order.{≤ℤ_of_≡, solve≤, *ℤ_nonneg, gap, *ℤ_mono}
 use Rattle.parts.specs.declared.octant.Side.{Side}
 use Rattle.parts.specs.declared.octant.Side.TheVariants.{Low, High}
 use Rattle.parts.specs.declared.octant.Octant.{Octant}
-use Rattle.parts.proofs.Blocks.{nth_map}
 use Rattle.parts.specs.Boxes.{taken, vertex, octants, box, side, towards}
 
 -- l is nowhere above h
@@ -50,12 +51,16 @@ sums h k l = omega (arith, ints)
 pub vertex-farthest : (d l h : Pt) → Under l h → (o : Octant) → dot d (vertex l h o) ≤ℤ dot d (vertex l h (towards d))
 vertex-farthest d l h u o = sums (side-farthest d.x l.x h.x o.x u.x) (side-farthest d.y l.y h.y o.y u.y) (side-farthest d.z l.z h.z o.z u.z)
 
-pub box-farthest : (d l h : Pt) → Under l h → AllByRecursion (λ p. dot d p ≤ℤ dot d (vertex l h (towards d))) (box l h)
-box-farthest d l h u = All-map (λ p. dot d p ≤ℤ dot d (vertex l h (towards d))) (vertex l h) octants (every octants)
+-- what holds of each corner of a box holds of all
+pub box-all : (P : Pt → Type 0) (l h : Pt) → ((o : Octant) → P (vertex l h o)) → AllByRecursion P (box l h)
+box-all P l h each = All-map P (vertex l h) octants (every octants)
   where
-    every : (os : List Octant) → AllByRecursion (λ o. dot d (vertex l h o) ≤ℤ dot d (vertex l h (towards d))) os
+    every : (os : List Octant) → AllByRecursion (λ o. P (vertex l h o)) os
     every [] = tt
-    every (o ∷ os) = (vertex-farthest d l h u o, every os)
+    every (o ∷ os) = (each o, every os)
+
+pub box-farthest : (d l h : Pt) → Under l h → AllByRecursion (λ p. dot d p ≤ℤ dot d (vertex l h (towards d))) (box l h)
+box-farthest d l h u = box-all (λ p. dot d p ≤ℤ dot d (vertex l h (towards d))) l h (vertex-farthest d l h u)
 
 -- each corner of a box is listed
 pub box_has : (l h : Pt) (o : Octant) → Has (box l h) (vertex l h o)
@@ -71,6 +76,17 @@ box_has l h o = listed o.x o.y o.z
     listed High High Low = (6, lit< tt, λ d. refl)
     listed High High High = (7, lit< tt, λ d. refl)
 
+-- each corner of a box reaches as far as the low and the high one do
+pub vertex-near : (n : ℕ) (l h : Pt) (o : Octant) → Near n l → Near n h → Near n (vertex l h o)
+vertex-near n l h o a b = (at_side l.x h.x o.x a.0 b.0, at_side l.y h.y o.y a.1 b.1, at_side l.z h.z o.z a.2 b.2)
+  where
+    at_side : (k m : ℤ) (s : Side) → nat_abs k ≤ n → nat_abs m ≤ n → nat_abs (taken s k m) ≤ n
+    at_side k m Low p q = p
+    at_side k m High p q = q
+
+pub box-near : (n : ℕ) (l h : Pt) → Near n l → Near n h → AllByRecursion (Near n) (box l h)
+box-near n l h a b = box-all (Near n) l h (λ o. vertex-near n l h o a b)
+
 -- the corner of a box by its number
 pub box_nth : (l h : Pt) (k : ℕ) (o : Octant) → slice_get octants k ≡ Some o → slice_get (box l h) k ≡ Some (vertex l h o)
-box_nth l h k o e = nth_map (vertex l h) octants k ∙ ap (option_map (vertex l h)) e
+box_nth l h k o e = slice_get-map (vertex l h) octants k ∙ ap (option_map (vertex l h)) e

@@ -1,31 +1,24 @@
-use Rattle.std.proofs.Common.{Bool, subst}
+use Rattle.std.proofs.Common.{rules, Ok, Err, Option, sym, ap, ◌∙◌}
+use Rattle.std.specs.Option.{option_and_then, option_copied}
+use Rattle.std.specs.Result.{result_ok}
+use Rattle.std.proofs.lemmas.Result.{err_from_is_err_and}
+use Rattle.integers.specs.Points.{Pt}
 use Rattle.exact.specs.Spots.{spot}
-use Rattle.boxes.proofs.Listings.{Walked, walked_skip, walked_past, walked_here, walked_out, walked_empty}
+use Rattle.parts.proofs.Options.{chained, refused_or}
+use Rattle.boxes.specs.declared.entry.Entry.{Entry}
+use Rattle.boxes.proofs.Reaches.{vertex_for_part}
+use Rattle.boxes.proofs.Listings.{unlisted, corner_at}
 use Rattle.boxes.proofs.book.BoxBookPartBook.corner.Goals as goal
-use Rattle.boxes.proofs.book.BoxBookPartBook.corner.Goals.{in-Some+else-left-lt8, in_default}
 
-pub returns-then-left-lt8 : goal.returns-then-left-lt8
-returns-then-left-lt8 c =
-    walked_here c.args.part c.args.k c.loop-entry.entry-index c.loop-entry.left c.args.self.now.entries.now _ c.loop-entry.known c.numbered.result (spot c.in-Some.c)
-    c.loop-entry-test.true c.in-Some.ensures c.numbered.ensures c.if-left-lt8.true c.loop-entry.invariant
+pub returns-in_err-ok_or : goal.returns-in_err-ok_or
+returns-in_err-ok_or c =
+    let (s, is, from) = err_from_is_err_and c.from_residual.result c.from_residual.ensures.1 in
+    let (none, slip) = refused_or c.entry_of.result c.no_such_part.result c.in_err-ok_or.field-0.0 (sym c.ok_or.ensures.value ∙ c.in_err-ok_or.was) in
+    rw (is, from) (ap Err (slip ∙ c.no_such_part.ensures) ∙ sym (unlisted c.args.part c.args.k c.args.self.now.entries.now (sym c.entry_of.ensures ∙ ap option_copied none)))
 
-pub loop-entry-preserved : goal.loop-entry-preserved
-loop-entry-preserved c = elim c.match-vertex_for.branch [
-  | in-Some+else-left-lt8 w ↦ rw (w.left-is, w.known-is)
-      (walked_past c.args.part c.args.k c.loop-entry.entry-index c.loop-entry.left c.args.self.now.entries.now _ c.loop-entry.known c.numbered.result (spot w.in-Some.c)
-      c.loop-entry-test.true w.in-Some.ensures w.if-left-lt8.false c.loop-entry.invariant)
-  | in_default w ↦ rw (w.left-is, w.known-is)
-      (walked_skip c.args.part c.args.k c.loop-entry.entry-index c.loop-entry.left c.args.self.now.entries.now _ c.loop-entry.known c.numbered.result
-      c.loop-entry-test.true w.in_default.ensures c.loop-entry.invariant)
-]
-
-pub returns-then-known : goal.returns-then-known
-returns-then-known c =
-    walked_out c.args.part c.args.k c.loop-entry.entry-index c.loop-entry.left c.args.self.now.entries.now c.loop-entry-test.false
-    (subst (λ (b : Bool). Walked c.args.part c.args.k c.args.self.now.entries.now c.loop-entry.entry-index c.loop-entry.left b) c.if-known.true c.loop-entry.invariant)
-
-pub returns-else-known : goal.returns-else-known
-returns-else-known c =
-    walked_empty c.args.part c.args.k c.loop-entry.entry-index c.loop-entry.left c.args.self.now.entries.now c.no_such_part.result c.loop-entry-test.false
-    (subst (λ (b : Bool). Walked c.args.part c.args.k c.args.self.now.entries.now c.loop-entry.entry-index c.loop-entry.left b) c.if-known.false c.loop-entry.invariant)
-    c.no_such_part.ensures
+pub returns : goal.returns
+returns c =
+    let corner : Entry → Option Pt = λ e. vertex_for_part c.args.part e c.numbered-octant.result in
+    ap Ok (chained (λ x. x.now) (spot {n = 5}) corner c.entry_of-entry.result c.and_then.result _ c.and_then.ensures (λ x q. search rules) ∙ ap (option_and_then corner) c.entry_of-entry.ensures)
+    ∙ sym (corner_at c.args.part c.args.k c.args.self.now.entries.now c.in_ok-ok_or.field-0.now c.numbered-octant.result
+    (sym c.entry_of.ensures ∙ ap option_copied (c.ok_or.ensures.ok_part ∙ ap result_ok c.in_ok-ok_or.was)) c.numbered-octant.ensures)

@@ -1,13 +1,13 @@
-use Rattle.exact.specs.Spots.{heading}
-use Rattle.boxes.proofs.Reaches.{boxed-found, boxed_none}
+use Rattle.std.proofs.Common.{rules, ap, ◌∙◌, subst, sym}
+use Rattle.std.specs.Option.{ok_or}
+use Rattle.exact.specs.Spots.{spot, heading}
+use Rattle.convex.specs.Hulls.{Found}
+use Rattle.boxes.specs.Entries.{boxed}
+use Rattle.boxes.proofs.Reaches.{boxed-farthest}
 use Rattle.boxes.proofs.book.BoxBookPartBook.farthest_along.Goals as goal
 
-pub returns-in-Some-vertex_for : goal.returns-in-Some-vertex_for
-returns-in-Some-vertex_for c =
-    boxed-found c.args.part (heading c.args.direction) c.args.self.now.entries.now _ c.towards.result c.in-Some.best c.in-Some-vertex_for.c
-    c.in-Some.ensures c.towards.ensures c.in-Some-vertex_for.ensures
-
-pub returns-in-None : goal.returns-in-None
-returns-in-None c =
-    boxed_none c.args.part (heading c.args.direction) c.args.self.now.entries.now _ c.towards.result c.in-Some.best _
-    c.in-Some.ensures c.in-None.ensures c.no_such_part-in-None.ensures
+pub returns : goal.returns
+returns c =
+    subst (Found (spot {n = 5}) (boxed c.args.self.now.entries.now c.args.part) (heading c.args.direction)) (sym (c.ok_or.ensures.value ∙ ap (ok_or c.and_then.result) c.no_such_part.ensures))
+    (boxed-farthest c.args.part (heading c.args.direction) c.args.self.now.entries.now c.towards-octant.result c.first_best_of.result c.and_then.result _ c.first_best_of.ensures c.towards-octant.ensures c.and_then.ensures
+    (λ s q. search rules))

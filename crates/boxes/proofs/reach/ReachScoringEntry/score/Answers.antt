@@ -1,14 +1,19 @@
-use Rattle.std.proofs.Common.{ap, ◌∙◌}
-use Rattle.integers.specs.Points.{dot}
-use Rattle.integers.proofs.Overflow.{passed}
-use Rattle.exact.specs.Spots.{heading, spot}
-use Rattle.boxes.proofs.Reaches.{reach-some, reach_none}
+use Rattle.std.proofs.Common.{cond, Some, None, sym, ap, ◌∙◌, rules}
+use Rattle.std.specs.Option.{option_map}
+use Rattle.std.proofs.lemmas.Iterator.Adapters.{option_map_id}
+use Rattle.integers.specs.Points.{Pt, dot}
+use Rattle.exact.specs.declared.scores.Product.{Product}
+use Rattle.exact.specs.Spots.{spot, heading}
+use Rattle.exact.specs.Space.{at}
+use Rattle.parts.specs.Boxes.{vertex}
+use Rattle.parts.proofs.Options.{mapped, map_if}
+use Rattle.boxes.specs.Entries.{counts_for_part}
 use Rattle.boxes.proofs.reach.ReachScoringEntry.score.Goals as goal
 
-pub returns-in-Some : goal.returns-in-Some
-returns-in-Some c =
-    reach-some c.args.self.now.part (heading c.args.self.now.direction) c.args.element.now c.towards-octant.result (spot c.in-Some.c) _ c.towards-octant.ensures c.in-Some.ensures
-    (passed c.product.result c.product.type_inv ∙ c.product.ensures ∙ ap (dot (heading c.args.self.now.direction)) c.on_table.ensures)
-
-pub returns-in-None : goal.returns-in-None
-returns-in-None c = reach_none c.args.self.now.part (heading c.args.self.now.direction) c.args.element.now c.towards-octant.result c.in-None.ensures
+pub returns : goal.returns
+returns c =
+    let along : Pt → Product = λ p. record { 0 = dot (heading c.args.self.now.direction) p } in
+    sym (option_map_id c.map.result)
+    ∙ mapped (spot {n = 5}) (λ p. p) along _ (λ x y q. search rules) c.vertex_for-farthest.result c.map.result c.map.ensures.cases
+    ∙ ap (option_map along) c.vertex_for-farthest.ensures ∙ map_if along (counts_for_part c.args.self.now.part c.args.element.now) _
+    ∙ ap (λ o. cond (counts_for_part c.args.self.now.part c.args.element.now) (Some (along (vertex (at c.args.element.now.low) (at c.args.element.now.high) o))) None) c.towards.ensures

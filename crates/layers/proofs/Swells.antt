@@ -1,10 +1,11 @@
--- What swelling makes of a part: whether it fits, which corner is farthest, and the order of the corners.
-use Rattle.std.specs.Prelude.{◌≡◌, ℕ, ◌+◌, ◌*◌, ◌/◌, ◌%◌, ◌<◌, ◌≤◌, Bool, true, false, List, [], ◌∷◌, ◌++◌, length, ℤ, pos, ◌+ℤ◌, ◌-ℤ◌, neg_ℤ, ◌≤ℤ◌, IfOk, Some, Ok, Err, Decides, Option, Result, ◌≢◌, unsigned_abs, refl}
+-- What the swell layer answers of a part: whether it fits, which corner is farthest, and the corners in their order.
+use Rattle.std.specs.Prelude.{◌≡◌, ℕ, ◌+◌, ◌/◌, ◌%◌, ◌≤◌, Bool, true, false, List, [], ◌∷◌, ◌++◌, ℤ, pos, ◌+ℤ◌, ◌-ℤ◌, neg_ℤ, ◌≤ℤ◌, Some, Ok, Err, Decides, None, Option, ◌≢◌, unsigned_abs, refl}
 use Rattle.std.proofs.Common.{sym, ap, ◌∙◌, div-add-mod', arith}
+use Rattle.std.specs.Option.{option_map, ForSome}
 use Rattle.std.specs.List.{flat_map, AllByRecursion, slice_get}
-use Rattle.std.proofs.ByRecursion.{All-map, All-weaker, all-has}
+use Rattle.std.proofs.ByRecursion.{All-weaker, all-has}
 use Rattle.std.proofs.lemmas.Int.{ints}
-use Rattle.std.proofs.lemmas.Bool.{cond-true, cond-false, cond_both}
+use Rattle.std.proofs.lemmas.Bool.{cond-true, cond-false}
 use Rattle.std.proofs.lemmas.Bool.Decides.{Decides-like}
 use Rattle.refusals.specs.declared.Refusal.{Refusal}
 use Rattle.refusals.specs.Slips.{swelled_too_far}
@@ -20,7 +21,7 @@ use Rattle.parts.specs.Boxes.{taken, vertex, octants, towards, side}
 use Rattle.parts.specs.Books.{Part, corner_of}
 use Rattle.parts.specs.Limits.{are_near}
 use Rattle.parts.proofs.Limits.{decides_all-near}
-use Rattle.parts.proofs.Boxes.{Under, box-farthest, box_has}
+use Rattle.parts.proofs.Boxes.{Under, box-farthest, box-near, box_has, box_nth}
 use Rattle.parts.proofs.Blocks.{all_joined, has_joined, nth_blocks, nth_has, in_block}
 use Rattle.parts.proofs.Farthests.{dot-sum, plus≤}
 use Rattle.layers.specs.Layers.{cube, widened, swelled}
@@ -28,15 +29,7 @@ use Rattle.layers.specs.Swells.{Roomy, Cleared}
 
 -- ---- whether it fits
 roomy-near : (m : ℕ) (p : Pt) → Roomy m p → AllByRecursion (Near 5) (widened m p)
-roomy-near m p (a, b, c) = All-map (Near 5) (vertex (p -ᵛ cube m) (p +ᵛ cube m)) octants (every octants)
-  where
-    reach : (x : ℤ) (s : Side) → unsigned_abs x + m ≤ 5 → unsigned_abs (taken s (x -ℤ pos m) (x +ℤ pos m)) ≤ 5
-    reach x Low h = omega (arith, ints)
-    reach x High h = omega (arith, ints)
-
-    every : (os : List Octant) → AllByRecursion (λ o. Near 5 (vertex (p -ᵛ cube m) (p +ᵛ cube m) o)) os
-    every [] = tt
-    every (o ∷ os) = ((reach p.x o.x a, reach p.y o.y b, reach p.z o.z c), every os)
+roomy-near m p (a, b, c) = box-near 5 (p -ᵛ cube m) (p +ᵛ cube m) (omega (arith, ints), omega (arith, ints), omega (arith, ints)) (omega (arith, ints), omega (arith, ints), omega (arith, ints))
 
 near-roomy : (m : ℕ) (p : Pt) → AllByRecursion (Near 5) (widened m p) → Roomy m p
 near-roomy m p h =
@@ -77,16 +70,6 @@ swelled_not m n ps h = cond-false (are_near 5 (flat_map (widened m) ps)) _ _ (ne
     never true k = absurd (k refl)
     never false k = refl
 
--- ---- the laws
-pub swelled-some : (m n : ℕ) (M : Part) → IfOk M (λ ps. 0 < length ps) → IfOk (swelled m n M) (λ ps. 0 < length ps)
-swelled-some m n (Ok []) h = absurd (omega arith)
-swelled-some m n (Ok (p ∷ ps)) h = cond_both (are_near 5 (flat_map (widened m) (p ∷ ps))) _ _ (λ v. IfOk v (λ ps. 0 < length ps)) (λ e. omega arith) (λ e. tt)
-swelled-some m n (Err s) h = tt
-
-pub swelled-near : (m n : ℕ) (M : Part) → IfOk (swelled m n M) (λ ps. AllByRecursion (Near 5) ps)
-swelled-near m n (Ok ps) = cond_both (are_near 5 (flat_map (widened m) ps)) _ _ (λ v. IfOk v (λ ps. AllByRecursion (Near 5) ps)) (λ e. (decides_all-near 5 (flat_map (widened m) ps)).0 e) (λ e. tt)
-swelled-near m n (Err s) = tt
-
 -- ---- farthest
 -- p moved towards d by m along each axis: which way does not depend on p
 moved_by : (m : ℕ) (d p : Pt) → dot d (vertex (p -ᵛ cube m) (p +ᵛ cube m) (towards d)) ≡ dot d p +ℤ dot d (vertex (record { x = neg_ℤ (pos m); y = neg_ℤ (pos m); z = neg_ℤ (pos m) }) (cube m) (towards d))
@@ -118,12 +101,9 @@ widened-farthest m d p ps h = record {
 
 -- ---- what the layer answers
 -- the slip of a part without room
-pub swelled-refused : (m n : ℕ) (d : Pt) (M : Part) (s : Refusal) → Cleared {X = Unit {0}} (Roomy m) n M (Err s) → Found spot (swelled m n M) d (Err s)
+pub swelled-refused : (m n : ℕ) (d : Pt) (M : Part) (s : Refusal) → Cleared {X = Unit {0}} (Roomy m) n M (Err s) → Found (spot {n = 5}) (swelled m n M) d (Err s)
 swelled-refused m n d (Ok ps) s (e, h) = rw (swelled_not m n ps h) e
 swelled-refused m n d (Err t) s e = cc
-
-refused : (s : Refusal) → ◌≡◌ {A = Result (Unit {0}) Refusal} (Ok tt) (Err s) → ⊥
-refused s e = let z : ◌≡◌ {A = ℕ} 0 1 = cc in omega arith
 
 -- a farthest corner of a part with room has room
 pub found-roomy : (m n : ℕ) (d : Pt) (M : Part) (c : PartCorner) → Cleared {X = Unit {0}} (Roomy m) n M (Ok tt) → Found spot M d (Ok c) → Roomy m (spot c)
@@ -140,19 +120,19 @@ pub swelled_corner_refused : (m n k : ℕ) (M : Part) (s : Refusal) → Cleared 
 swelled_corner_refused m n k (Ok ps) s (e, h) = rw (swelled_not m n ps h) (ap Err e)
 swelled_corner_refused m n k (Err t) s e = cc
 
-pub corner_roomy : (m n q : ℕ) (M : Part) (c : PartCorner) → Cleared {X = Unit {0}} (Roomy m) n M (Ok tt) → Ok (Some (spot c)) ≡ corner_of M q → Roomy m (spot c)
-corner_roomy m n q (Ok ps) c h e = all-has (Roomy m) ps (spot c) h (nth_has ps q (spot c) (cc))
-corner_roomy m n q (Err s) c h e = absurd (refused s h)
-
-eight : (m : ℕ) (p : Pt) → length (widened m p) ≡ 8
-eight m p = refl
-
-split : (k : ℕ) → (k / 8) * 8 + k % 8 ≡ k
-split k = div-add-mod' k 8
+-- a corner of a part with room has room
+pub corner_roomy : (m n q : ℕ) (M : Part) (o : Option PartCorner) → Cleared {X = Unit {0}} (Roomy m) n M (Ok tt) → Ok (option_map spot o) ≡ corner_of M q → ForSome o (λ c. Roomy m (spot c))
+corner_roomy m n q (Ok ps) o h e c is = all-has (Roomy m) ps (spot c) h (nth_has ps q (spot c) (cc))
+corner_roomy m n q (Err s) o h e c is = absurd (cc)
 
 -- the k-th corner is the one of number k mod 8 of the (k div 8)-th below, widened
-pub swelled_corner : (m n k : ℕ) (M : Part) (c : Option Pt) → Cleared {X = Unit {0}} (Roomy m) n M (Ok tt) → Ok c ≡ corner_of M (k / 8) → Ok (in_block (widened m) c (k % 8)) ≡ corner_of (swelled m n M) k
-swelled_corner m n k (Ok ps) c h e =
-    let is : c ≡ slice_get ps (k / 8) = cc in
-    rw (swelled-fits m n ps h) (ap Ok (ap (λ v. in_block (widened m) v (k % 8)) is ∙ sym (nth_blocks (widened m) (eight m) ps (k / 8) (k % 8) (omega arith)) ∙ ap (slice_get (flat_map (widened m) ps)) (split k)))
-swelled_corner m n k (Err s) c h e = absurd (refused s h)
+pub swelled_corner : (m n k : ℕ) (M : Part) (o : Octant) (c : Option Pt) → Cleared {X = Unit {0}} (Roomy m) n M (Ok tt) → slice_get octants (k % 8) ≡ Some o → Ok c ≡ corner_of M (k / 8)
+    → Ok (option_map (λ p. vertex (p -ᵛ cube m) (p +ᵛ cube m) o) c) ≡ corner_of (swelled m n M) k
+swelled_corner m n k (Ok ps) o c h is e =
+    let below : slice_get ps (k / 8) ≡ c = cc in
+    rw (swelled-fits m n ps h) (ap Ok (here c ∙ ap (λ v. in_block (widened m) v (k % 8)) (sym below) ∙ sym (nth_blocks (widened m) (λ p. refl) ps (k / 8) (k % 8) (omega arith)) ∙ ap (slice_get (flat_map (widened m) ps)) (div-add-mod' k 8)))
+  where
+    here : (c : Option Pt) → option_map (λ p. vertex (p -ᵛ cube m) (p +ᵛ cube m) o) c ≡ in_block (widened m) c (k % 8)
+    here None = refl
+    here (Some p) = sym (box_nth (p -ᵛ cube m) (p +ᵛ cube m) (k % 8) o is)
+swelled_corner m n k (Err s) o c h is e = absurd (cc)
