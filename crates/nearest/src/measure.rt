@@ -1,16 +1,17 @@
 // The measurement: the nearest difference of two bodies and the square of its length, in lowest terms, with its witnesses.
 ghost use Rattle.std.specs.Prelude.{◌≡◌};
 ghost use Rattle.convex.specs.Simplices.{weights as weights_of};
-ghost use Rattle.nearest.specs.Shapes.{pairs, points, Sound};
+ghost use Rattle.nearest.specs.Simplices.{pairs, points};
 ghost use Rattle.nearest.specs.Measurements.{blank as blank_of, Measured};
 ghost use Rattle.nearest.specs.Reports.{weighed, listed, padded, Told};
 
 use crate::body::Body;
+use crate::carrier::Carrier;
 use crate::measurement::{Measurement, Witness};
 use crate::pair::Pair;
 use crate::rounds::nearest;
-use crate::simplex::{Carrier, Simplex};
-use crate::solves::{weights2, weights3, weights4};
+use crate::simplex::Simplex;
+use crate::span::Span;
 use crate::steps::gap;
 use exact::corner::Corner;
 use exact::fraction::Fraction;
@@ -46,24 +47,28 @@ fn witnesses(s: Simplex) -> [Witness; 4]
     let none = blank();
     match s {
         Simplex::One(a) => [witness(a, 1), none, none, none],
-        Simplex::Two(a, b) => {
-            let (k, l) = weights2(a, b);
-            [witness(a, k), witness(b, l), none, none]
+        Simplex::Two(s) => {
+            let [k, l]: [i64; 2] = s.weights();
+            [witness(s.a, k), witness(s.b, l), none, none]
         }
-        Simplex::Three(a, b, c) => {
-            let (k, l, m) = weights3(a, b, c);
-            [witness(a, k), witness(b, l), witness(c, m), none]
+        Simplex::Three(s) => {
+            let [k, l, m]: [i64; 3] = s.weights();
+            [witness(s.a, k), witness(s.b, l), witness(s.c, m), none]
         }
-        Simplex::Four(a, b, c, d) => {
-            let (k, l, m, n) = weights4(a, b, c, d);
-            [witness(a, k), witness(b, l), witness(c, m), witness(d, n)]
+        Simplex::Four(s) => {
+            let [k, l, m, n]: [i64; 4] = s.weights();
+            [
+                witness(s.a, k),
+                witness(s.b, l),
+                witness(s.c, m),
+                witness(s.d, n),
+            ]
         }
     }
 }
 
 // What is reported of the simplex at which the search ended.
 fn report(found: Carrier) -> Measurement
-    requires { Sound found }
     ensures { Told found result }
 {
     let square = gap(found);

@@ -1,17 +1,16 @@
 // The search for the nearest difference: from one pair of corners, round by round, each time with the pair that lies farthest on the near side.
-ghost use Rattle.std.specs.Prelude.{◌≡◌, true, false, ◌*ℤ◌, ◌≤ℤ◌, ◌<ℤ◌};
-ghost use Rattle.integers.specs.Points.{dot as dotted, origin};
+ghost use Rattle.std.specs.Prelude.{◌≡◌, true};
+ghost use Rattle.integers.specs.Points.{origin};
 ghost use Rattle.exact.specs.Space.{at, Within};
 ghost use Rattle.nearest.specs.Bodies.{OfBoth};
-ghost use Rattle.nearest.specs.Shapes.{between, Sound};
 ghost use Rattle.nearest.specs.Searches.{Probed, Ended};
 
 use crate::body::Body;
+use crate::carrier::Carrier;
 use crate::pair::Pair;
-use crate::simplex::Carrier;
-use crate::solves::difference;
-use crate::steps::{grow, vertex};
-use crate::vectors::{dot, opposite};
+use crate::span::Span;
+use crate::steps::grown;
+use crate::vectors::opposite;
 use exact::direction::Direction;
 use exact::point::Point;
 use refusals::Refusal;
@@ -37,31 +36,18 @@ fn probe<F: Body, G: Body>(first: &F, second: &G, d: Point) -> Result<Pair, Refu
     })
 }
 
-// Whether the difference of w lies on the near side of the carried point.
-fn nearer(c: Carrier, w: Pair) -> bool
-    requires { Sound c }
-    ensures yes { result ≡ true → (c.extent *ℤ dotted (at c.foot) (between w)) <ℤ dotted (at c.foot) (at c.foot) }
-    ensures no { result ≡ false → dotted (at c.foot) (at c.foot) ≤ℤ (c.extent *ℤ dotted (at c.foot) (between w)) }
-{
-    let p = difference(w);
-    let k = dot(c.foot, p);
-    let s = dot(c.foot, c.foot);
-    c.extent * k < s
-}
-
 // The simplex that carries the nearest difference.
 pub(crate) fn nearest<F: Body, G: Body>(first: &F, second: &G) -> Result<Carrier, Refusal>
     ensures { OfBoth Ended (F.Body.corners first.now) (G.Body.corners second.now) result }
 {
     let from = probe(first, second, Point { x: -1, y: 0, z: 0 })?;
-    let mut near = vertex(from);
+    let mut near = from.nearest();
     while !is_origin(near.foot) {
         let w = probe(first, second, near.foot)?;
-        let onward = nearer(near, w);
-        if !onward {
+        let Some(next) = grown(near, w) else {
             return Ok(near);
-        }
-        near = grow(near, w);
+        };
+        near = next;
     }
     Ok(near)
 }

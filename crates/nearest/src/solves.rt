@@ -1,11 +1,14 @@
 // The foot of the perpendicular from the origin to the line, plane or space through two to four corner differences: weights, sum and total.
-ghost use Rattle.std.specs.Prelude.{◌≡◌, List, [], ◌∷◌, ℤ};
+ghost use Rattle.std.specs.Prelude.{◌≡◌, [], ◌∷◌};
 ghost use Rattle.integers.specs.Points.{◌-ᵛ◌, det};
-ghost use Rattle.convex.specs.Simplices.{normal as normal_of, volume as volume_of, weights as weights_of, foot as foot_of, extent as extent_of};
+ghost use Rattle.convex.specs.Simplices.{normal as normal_of, volume as volume_of};
 ghost use Rattle.exact.specs.Space.{at};
-ghost use Rattle.nearest.specs.Shapes.{between, betweens};
+ghost use Rattle.nearest.specs.Pairs.{between};
 
+use crate::carrier::Carrier;
 use crate::pair::Pair;
+use crate::simplex::{Edge, Simplex, Solid, Triangle};
+use crate::span::{Span, or_face};
 use crate::vectors::{cross, dot, minus, plus, scaled};
 use exact::point::Point;
 
@@ -25,40 +28,6 @@ fn along(a: Pair, b: Pair) -> Point
     let p = difference(a);
     let q = difference(b);
     minus(q, p)
-}
-
-// The weights of the foot on a line.
-pub(crate) fn weights2(a: Pair, b: Pair) -> (i64, i64)
-    ensures { weights_of (betweens (a ∷ b ∷ [])) ≡ result.0 ∷ result.1 ∷ [] }
-{
-    let p = difference(a);
-    let q = difference(b);
-    let e = along(a, b);
-    let k = dot(q, e);
-    let l = dot(p, e);
-    (k, -l)
-}
-
-// The sum of the two by these weights.
-pub(crate) fn foot2(a: Pair, b: Pair) -> Point
-    ensures { at result ≡ foot_of (betweens (a ∷ b ∷ [])) }
-{
-    let p = difference(a);
-    let q = difference(b);
-    let e = along(a, b);
-    let k = dot(q, e);
-    let l = dot(p, e);
-    let left = scaled(k, p);
-    let right = scaled(l, q);
-    minus(left, right)
-}
-
-// The total of these weights: the square of the edge.
-pub(crate) fn extent2(a: Pair, b: Pair) -> i64
-    ensures { result ≡ extent_of (betweens (a ∷ b ∷ [])) }
-{
-    let e = along(a, b);
-    dot(e, e)
 }
 
 // The normal of a triangle: twice its area long.
@@ -86,56 +55,6 @@ fn determinant(a: Pair, b: Pair, c: Pair) -> i64
     dot(p, qr)
 }
 
-// The weights of the foot on a plane.
-pub(crate) fn weights3(a: Pair, b: Pair, c: Pair) -> (i64, i64, i64)
-    ensures { weights_of (betweens (a ∷ b ∷ c ∷ [])) ≡ result.0 ∷ result.1 ∷ result.2 ∷ [] }
-{
-    let n = normal(a, b, c);
-    let p = difference(a);
-    let q = difference(b);
-    let r = difference(c);
-    let qr = cross(q, r);
-    let rp = cross(r, p);
-    let pq = cross(p, q);
-    let k = dot(n, qr);
-    let l = dot(n, rp);
-    let m = dot(n, pq);
-    (k, l, m)
-}
-
-// The sum of the three by these weights.
-pub(crate) fn foot3(a: Pair, b: Pair, c: Pair) -> Point
-    ensures { at result ≡ foot_of (betweens (a ∷ b ∷ c ∷ [])) }
-{
-    let n = normal(a, b, c);
-    let d = determinant(a, b, c);
-    scaled(d, n)
-}
-
-// The total of these weights: the square of the normal.
-pub(crate) fn extent3(a: Pair, b: Pair, c: Pair) -> i64
-    ensures { result ≡ extent_of (betweens (a ∷ b ∷ c ∷ [])) }
-{
-    let n = normal(a, b, c);
-    dot(n, n)
-}
-
-// The weights of the origin in a solid.
-pub(crate) fn weights4(a: Pair, b: Pair, c: Pair, d: Pair) -> (i64, i64, i64, i64)
-    ensures { weights_of (betweens (a ∷ b ∷ c ∷ d ∷ [])) ≡ result.0 ∷ result.1 ∷ result.2 ∷ result.3 ∷ [] }
-{
-    let k = determinant(b, c, d);
-    let l = determinant(a, c, d);
-    let m = determinant(a, b, d);
-    let n = determinant(a, b, c);
-    let v = k - l + m - n;
-    if v < 0 {
-        (-k, l, -m, n)
-    } else {
-        (k, -l, m, -n)
-    }
-}
-
 // Six times the volume of a solid, with a sign; zero where the four lie in one plane.
 fn volume(a: Pair, b: Pair, c: Pair, d: Pair) -> i64
     ensures { result ≡ volume_of (between a) (between b) (between c) (between d) }
@@ -147,10 +66,156 @@ fn volume(a: Pair, b: Pair, c: Pair, d: Pair) -> i64
     k - l
 }
 
-// The total of the weights of the origin: the size of the volume.
-pub(crate) fn extent4(a: Pair, b: Pair, c: Pair, d: Pair) -> i64
-    ensures { result ≡ extent_of (betweens (a ∷ b ∷ c ∷ d ∷ [])) }
-{
-    let v = volume(a, b, c, d);
-    if v < 0 { -v } else { v }
+// A single pair is its own foot.
+impl Span<1> for Pair {
+    ghost pairs = { λ a. a ∷ [] };
+
+    fn weights(self) -> [i64; 1] {
+        [1]
+    }
+
+    fn foot(self) -> Point {
+        difference(self)
+    }
+
+    fn extent(self) -> i64 {
+        1
+    }
+
+    fn simplex(self) -> Simplex {
+        Simplex::One(self)
+    }
+
+    fn by_faces(self) -> Option<Carrier> {
+        None
+    }
+}
+
+// The foot on a line.
+impl Span<2> for Edge {
+    ghost pairs = { λ s. s.a ∷ s.b ∷ [] };
+
+    fn weights(self) -> [i64; 2] {
+        let Edge { a, b } = self;
+        let p = difference(a);
+        let q = difference(b);
+        let e = along(a, b);
+        let k = dot(q, e);
+        let l = dot(p, e);
+        [k, -l]
+    }
+
+    fn foot(self) -> Point {
+        let Edge { a, b } = self;
+        let p = difference(a);
+        let q = difference(b);
+        let e = along(a, b);
+        let k = dot(q, e);
+        let l = dot(p, e);
+        let left = scaled(k, p);
+        let right = scaled(l, q);
+        minus(left, right)
+    }
+
+    // The square of the edge.
+    fn extent(self) -> i64 {
+        let e = along(self.a, self.b);
+        dot(e, e)
+    }
+
+    fn simplex(self) -> Simplex {
+        Simplex::Two(self)
+    }
+
+    // Its ends.
+    fn by_faces(self) -> Option<Carrier> {
+        let Edge { a, b } = self;
+        let [k, l]: [i64; 2] = self.weights();
+        let best = or_face(None, k, b);
+        or_face(best, l, a)
+    }
+}
+
+// The foot on a plane.
+impl Span<3> for Triangle {
+    ghost pairs = { λ s. s.a ∷ s.b ∷ s.c ∷ [] };
+
+    fn weights(self) -> [i64; 3] {
+        let Triangle { a, b, c } = self;
+        let n = normal(a, b, c);
+        let p = difference(a);
+        let q = difference(b);
+        let r = difference(c);
+        let qr = cross(q, r);
+        let rp = cross(r, p);
+        let pq = cross(p, q);
+        [dot(n, qr), dot(n, rp), dot(n, pq)]
+    }
+
+    fn foot(self) -> Point {
+        let Triangle { a, b, c } = self;
+        let n = normal(a, b, c);
+        let d = determinant(a, b, c);
+        scaled(d, n)
+    }
+
+    // The square of the normal.
+    fn extent(self) -> i64 {
+        let n = normal(self.a, self.b, self.c);
+        dot(n, n)
+    }
+
+    fn simplex(self) -> Simplex {
+        Simplex::Three(self)
+    }
+
+    fn by_faces(self) -> Option<Carrier> {
+        let Triangle { a, b, c } = self;
+        let [k, l, m]: [i64; 3] = self.weights();
+        let best = or_face(None, k, Edge { a: b, b: c });
+        let best = or_face(best, l, Edge { a, b: c });
+        or_face(best, m, Edge { a, b })
+    }
+}
+
+// The foot in the whole space is the origin.
+impl Span<4> for Solid {
+    ghost pairs = { λ s. s.a ∷ s.b ∷ s.c ∷ s.d ∷ [] };
+
+    fn weights(self) -> [i64; 4] {
+        let Solid { a, b, c, d } = self;
+        let k = determinant(b, c, d);
+        let l = determinant(a, c, d);
+        let m = determinant(a, b, d);
+        let n = determinant(a, b, c);
+        let v = k - l + m - n;
+        if v < 0 {
+            [-k, l, -m, n]
+        } else {
+            [k, -l, m, -n]
+        }
+    }
+
+    fn foot(self) -> Point {
+        Point { x: 0, y: 0, z: 0 }
+    }
+
+    // The size of the volume.
+    fn extent(self) -> i64 {
+        let v = volume(self.a, self.b, self.c, self.d);
+        if v < 0 { -v } else { v }
+    }
+
+    fn simplex(self) -> Simplex {
+        Simplex::Four(self)
+    }
+
+    fn by_faces(self) -> Option<Carrier> {
+        let Solid { a, b, c, d } = self;
+        let [k, l, m, n]: [i64; 4] = self.weights();
+        let best = or_face(None, k, Triangle { a: b, b: c, c: d });
+        let best = or_face(best, l, Triangle { a, b: c, c: d });
+        let best = or_face(best, m, Triangle { a, b, c: d });
+        or_face(best, n, Triangle { a, b, c })
+    }
 }

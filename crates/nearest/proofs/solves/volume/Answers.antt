@@ -3,7 +3,7 @@ use Rattle.integers.specs.Points.{dot}
 use Rattle.integers.proofs.Solver.{var, ◌⊖◌}
 use Rattle.integers.proofs.Overflow.{Bv, fits, kept_is}
 use Rattle.convex.specs.Simplices.{normal}
-use Rattle.nearest.specs.Shapes.{between}
+use Rattle.nearest.specs.Pairs.{between}
 use Rattle.integers.proofs.Environments.{num}
 use Rattle.convex.proofs.Sizes.{near_by, size_by}
 use Rattle.nearest.proofs.Rooms.{roomy}

@@ -8,14 +8,14 @@ use Rattle.nearest.proofs.Faces.{square_is, gap-low}
 use Rattle.nearest.proofs.steps.gap.Goals as goal
 
 pub dot-requires : goal.dot-requires
-dot-requires c = roomy 619573248 28 (near-foot c.requires) (near_corner c.requires (at c.corner-p.result) c.corner-p.ensures) tt tt tt
+dot-requires c = roomy 619573248 28 (near-foot c.args.c) (near_corner c.args.c (at c.corner-p.result) c.corner-p.ensures) tt tt tt
 
 pub returns : goal.returns
 returns c =
     let y = at c.corner-p.result in let h = c.corner-p.ensures in
     let e = passed c.dot.result c.dot.type_inv ∙ c.dot.ensures in
     record {
-      square = square_is c.args.c y _ c.requires h e;
-      low = gap-low c.args.c y _ c.requires h e;
-      high = size_by e (size_gap c.requires y h);
+      square = square_is c.args.c y _ h e;
+      low = gap-low c.args.c y _ h e;
+      high = size_by e (size_gap c.args.c y h);
     }

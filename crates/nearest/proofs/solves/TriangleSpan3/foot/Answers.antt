@@ -1,0 +1,13 @@
+use Rattle.std.proofs.Common.{◌∙◌, ap₂}
+use Rattle.integers.specs.Points.{◌·ᵛ◌}
+use Rattle.integers.proofs.Overflow.{passed}
+use Rattle.convex.proofs.Sizes.{near_by, size_by}
+use Rattle.nearest.proofs.Rooms.{scaly}
+use Rattle.nearest.proofs.Pairs.{near-normal, size_det}
+use Rattle.nearest.proofs.solves.TriangleSpan3.foot.Goals as goal
+
+pub scaled-requires : goal.scaled-requires
+scaled-requires c = scaly 131712 4704 (size_by (passed c.determinant-d.result c.determinant-d.type_inv ∙ c.determinant-d.ensures) (size_det c.args.self.a c.args.self.b c.args.self.c)) (near_by c.normal-n.ensures (near-normal c.args.self.a c.args.self.b c.args.self.c)) tt tt tt
+
+pub returns : goal.returns
+returns c = c.scaled.ensures ∙ ap₂ ◌·ᵛ◌ (passed c.determinant-d.result c.determinant-d.type_inv ∙ c.determinant-d.ensures) c.normal-n.ensures
