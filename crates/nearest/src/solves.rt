@@ -86,6 +86,7 @@ impl Span<1> for Pair {
         Simplex::One(self)
     }
 
+    #[inline(always)]
     fn by_faces(self) -> Option<Carrier> {
         None
     }
@@ -128,11 +129,14 @@ impl Span<2> for Edge {
     }
 
     // Its ends.
+    #[inline(always)]
     fn by_faces(self) -> Option<Carrier> {
         let Edge { a, b } = self;
         let [k, l]: [i64; 2] = self.weights();
-        let best = or_face(None, k, b);
-        or_face(best, l, a)
+        let mut best = None;
+        or_face(&mut best, k, b);
+        or_face(&mut best, l, a);
+        best
     }
 }
 
@@ -169,12 +173,15 @@ impl Span<3> for Triangle {
         Simplex::Three(self)
     }
 
+    #[inline(always)]
     fn by_faces(self) -> Option<Carrier> {
         let Triangle { a, b, c } = self;
         let [k, l, m]: [i64; 3] = self.weights();
-        let best = or_face(None, k, Edge { a: b, b: c });
-        let best = or_face(best, l, Edge { a, b: c });
-        or_face(best, m, Edge { a, b })
+        let mut best = None;
+        or_face(&mut best, k, Edge { a: b, b: c });
+        or_face(&mut best, l, Edge { a, b: c });
+        or_face(&mut best, m, Edge { a, b });
+        best
     }
 }
 
@@ -210,12 +217,15 @@ impl Span<4> for Solid {
         Simplex::Four(self)
     }
 
+    #[inline(always)]
     fn by_faces(self) -> Option<Carrier> {
         let Solid { a, b, c, d } = self;
         let [k, l, m, n]: [i64; 4] = self.weights();
-        let best = or_face(None, k, Triangle { a: b, b: c, c: d });
-        let best = or_face(best, l, Triangle { a, b: c, c: d });
-        let best = or_face(best, m, Triangle { a, b, c: d });
-        or_face(best, n, Triangle { a, b, c })
+        let mut best = None;
+        or_face(&mut best, k, Triangle { a: b, b: c, c: d });
+        or_face(&mut best, l, Triangle { a, b: c, c: d });
+        or_face(&mut best, m, Triangle { a, b, c: d });
+        or_face(&mut best, n, Triangle { a, b, c });
+        best
     }
 }

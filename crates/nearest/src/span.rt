@@ -52,20 +52,17 @@ pub(crate) trait Span<const N: usize>: Copy {
     }
 }
 
-// The best so far, or the nearest point of one more face where its weight is not positive and it is shorter.
-pub(crate) fn or_face<const N: usize, F: Span<N>>(
-    best: Option<Carrier>,
-    weight: i64,
-    face: F,
-) -> Option<Carrier>
-    ensures { Chosen weight (F.pairs face) best result }
+// Makes of the best so far the better of it and the nearest point of one more face, where the weight across from it is not positive.
+#[inline(always)]
+pub(crate) fn or_face<const N: usize, F: Span<N>>(best: &mut Option<Carrier>, weight: i64, face: F)
+    ensures { Chosen weight (F.pairs face) best.old best.new }
 {
     if weight > 0 {
-        return best;
+        return;
     }
     let next = face.nearest();
-    match best {
-        Some(best) => Some(shorter(best, next)),
-        None => Some(next),
+    match *best {
+        Some(found) => *best = Some(shorter(found, next)),
+        None => *best = Some(next),
     }
 }

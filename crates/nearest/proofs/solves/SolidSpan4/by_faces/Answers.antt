@@ -19,11 +19,11 @@ invariant_of-or_face-4 c = let s = c.args.self in record { independent = indepen
 pub returns : goal.returns
 returns c =
     let s = c.args.self in let vs = s.a ∷ s.b ∷ s.c ∷ s.d ∷ [] in let e = c.weights.ensures in
-    all_faces vs _ s.independent
-    (next_face vs 3 c.or_face-best-3.result _
-    (next_face vs 2 c.or_face-best-2.result _
-    (next_face vs 1 c.or_face-best.result _
-    (next_face vs 0 None _ (no_face vs) (chosen_by vs 0 e (s.b ∷ s.c ∷ s.d ∷ []) None _ c.or_face-best.ensures))
-    (chosen_by vs 1 e (s.a ∷ s.c ∷ s.d ∷ []) _ _ c.or_face-best-2.ensures))
-    (chosen_by vs 2 e (s.a ∷ s.b ∷ s.d ∷ []) _ _ c.or_face-best-3.ensures))
-    (chosen_by vs 3 e (s.a ∷ s.b ∷ s.c ∷ []) _ _ c.or_face.ensures))
+    all_faces vs c.or_face-4.new.best s.independent
+    (next_face vs 3 c.or_face-3.new.best _
+    (next_face vs 2 c.or_face-2.new.best _
+    (next_face vs 1 c.or_face.new.best _
+    (next_face vs 0 None _ (no_face vs) (chosen_by vs 0 e (s.b ∷ s.c ∷ s.d ∷ []) None _ c.or_face.ensures))
+    (chosen_by vs 1 e (s.a ∷ s.c ∷ s.d ∷ []) _ _ c.or_face-2.ensures))
+    (chosen_by vs 2 e (s.a ∷ s.b ∷ s.d ∷ []) _ _ c.or_face-3.ensures))
+    (chosen_by vs 3 e (s.a ∷ s.b ∷ s.c ∷ []) _ _ c.or_face-4.ensures))
