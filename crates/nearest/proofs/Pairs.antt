@@ -14,10 +14,10 @@ use Rattle.convex.specs.Simplices.{normal, volume, sign, weights, footing, Indep
 use Rattle.convex.proofs.Simplices.{normal_e}
 use Rattle.convex.proofs.Sizes as sizes
 use Rattle.convex.proofs.Sizes.{sized, size_by, near_by}
-use Rattle.exact.specs.Space.{at}
 use Rattle.exact.specs.Spots.{spot}
 use Rattle.nearest.specs.declared.pair.Pair.{Pair}
 use Rattle.nearest.specs.declared.carrier.Carrier.{Carrier}
+use Rattle.nearest.specs.Vectors.{to}
 use Rattle.nearest.specs.Pairs.{between, betweens}
 use Rattle.nearest.specs.declared.simplex.Simplex.{Simplex}
 use Rattle.nearest.specs.declared.simplex.Simplex.TheVariants.{One, Two, Three, Four}
@@ -125,23 +125,23 @@ module _ (c : Carrier) where
   pub positive : pos 0 <ℤ c.extent
   positive = subst (λ w. pos 0 <ℤ w) (sym c.extent_is) (independent c.simplex).apart
 
-  pub near-foot : Near 619573248 (at c.foot)
+  pub near-foot : Near 619573248 (to c.foot)
   near-foot = near_by c.foot_is (sizes.near-foot (points c.simplex) (all_near (pairs c.simplex)))
 
   pub size_extent : nat_abs c.extent ≤ 66382848
   size_extent = size_by c.extent_is (sizes.size_extent (points c.simplex) (all_near (pairs c.simplex)))
 
   -- D·w
-  pub size_product : (w : Pt) → Near 28 w → nat_abs (dot (at c.foot) w) ≤ 52044152832
+  pub size_product : (w : Pt) → Near 28 w → nat_abs (dot (to c.foot) w) ≤ 52044152832
   size_product w h = size_by (ap (λ p. dot p w) c.foot_is) (sizes.size_product (points c.simplex) (all_near (pairs c.simplex)) w h)
 
   -- D·D
-  pub size_square : nat_abs (dot (at c.foot) (at c.foot)) ≤ 1151613028911808512
+  pub size_square : nat_abs (dot (to c.foot) (to c.foot)) ≤ 1151613028911808512
   size_square = size_by (ap (λ p. dot p p) c.foot_is) (sizes.size_square (points c.simplex) (all_near (pairs c.simplex)))
 
   pub near_corner : (y : Pt) → Has (points c.simplex) y → Near 28 y
   near_corner y h = all-has (Near 28) (points c.simplex) y (all_near (pairs c.simplex)) h
 
   -- D·y, for a corner y of the simplex
-  pub size_gap : (y : Pt) → Has (points c.simplex) y → nat_abs (dot (at c.foot) y) ≤ 17348050944
+  pub size_gap : (y : Pt) → Has (points c.simplex) y → nat_abs (dot (to c.foot) y) ≤ 17348050944
   size_gap y h = size_by (ap (λ p. dot p y) c.foot_is) (sizes.size_gap (points c.simplex) y (all_near (pairs c.simplex)) h)

@@ -1,5 +1,5 @@
 -- One turn of the search.
-use Rattle.std.proofs.Common.{◌≡◌, ◌<◌, ◌≤◌, List, [], ◌∷◌, ◌++◌, length, pos, negsuc, ◌*ℤ◌, ◌≤ℤ◌, ◌<ℤ◌, sym, refl, ap, subst, subst₂, arith, leb→le}
+use Rattle.std.proofs.Common.{false, not, ◌&&◌, int_eq, rules, ◌≡◌, ◌<◌, ◌≤◌, List, [], ◌∷◌, ◌++◌, length, pos, negsuc, ◌*ℤ◌, ◌≤ℤ◌, ◌<ℤ◌, sym, refl, ap, subst, subst₂, arith, leb→le}
 use Rattle.std.specs.List.{AllByRecursion}
 use Rattle.std.proofs.ByRecursion.{All-weaker, all-has, All-push}
 use Rattle.integers.specs.Points.{Pt, dot, origin}
@@ -14,10 +14,11 @@ use Rattle.convex.proofs.Independent.{room, independent_push}
 use Rattle.convex.proofs.Carriers.{carries-reached, carries_next}
 use Rattle.convex.proofs.Measure.{measure_falls}
 use Rattle.convex.proofs.Sizes.{wider, extent≤}
-use Rattle.exact.specs.Space.{at}
 use Rattle.exact.specs.Spots.{spot}
 use Rattle.nearest.specs.declared.pair.Pair.{Pair}
+use Rattle.nearest.specs.declared.vectors.Vector.{Vector}
 use Rattle.nearest.specs.declared.carrier.Carrier.{Carrier}
+use Rattle.nearest.specs.Vectors.{to}
 use Rattle.nearest.specs.Pairs.{between, betweens}
 use Rattle.nearest.specs.Simplices.{pairs, points}
 use Rattle.nearest.specs.Shapes.{carried, Carried}
@@ -30,7 +31,7 @@ betweens_push [] w = refl
 betweens_push (v ∷ vs) w = ap (λ t. between v ∷ t) (betweens_push vs w)
 
 -- ---- a pair on the near side
-module _ (c : Carrier) (w : Pair) (l : (c.extent *ℤ dot (at c.foot) (between w)) <ℤ dot (at c.foot) (at c.foot)) where
+module _ (c : Carrier) (w : Pair) (l : (c.extent *ℤ dot (to c.foot) (between w)) <ℤ dot (to c.foot) (to c.foot)) where
   near-side : let S = points c.simplex in (extent S *ℤ dot (foot S) (between w)) <ℤ dot (foot S) (foot S)
   near-side = subst (λ x. (x.over *ℤ dot x.point (between w)) <ℤ dot x.point x.point) (carried_is c) l
 
@@ -66,9 +67,13 @@ probed-corners p = record { first = p.first.one; second = p.second.one }
 pub held_first : {d : Pt} (ps qs : List Pt) (w : Pair) (c : Carrier) → Probed d ps qs w → Carried (w ∷ []) c → Held ps qs c
 held_first ps qs w c p t = record { vs = w ∷ []; carried = t; corners = All-weaker _ _ (λ x i. all-has (CornersOf ps qs) (w ∷ []) x (probed-corners p, tt) i) (pairs c.simplex) t.among }
 
+-- a test by coordinates
+pub at_origin : (v : Vector) → false ≡ not (int_eq v.x (pos 0) && (int_eq v.y (pos 0) && int_eq v.z (pos 0))) → to v ≡ origin
+at_origin v h = search rules
+
 -- a foot may be asked for
-pub foot_near : (c : Carrier) → Near 1000000000 (at c.foot)
-foot_near c = wider 1000000000 (at c.foot) (leb→le _ _ tt) (near-foot c)
+pub foot_near : (c : Carrier) → Near 1000000000 (to c.foot)
+foot_near c = wider 1000000000 (to c.foot) (leb→le _ _ tt) (near-foot c)
 
 module _ {ps qs : List Pt} {c : Carrier} (h : Held ps qs c) where
   -- the carried point is a mean of the points
@@ -79,11 +84,11 @@ module _ {ps qs : List Pt} {c : Carrier} (h : Held ps qs c) where
   found n = record { nearest = n; corners = h.corners; inside = h.carried.carries.inside }
 
   -- no corners on the near side
-  pub stop : (w : Pair) → Probed (at c.foot) ps qs w → dot (at c.foot) (at c.foot) ≤ℤ (c.extent *ℤ dot (at c.foot) (between w)) → Ended ps qs c
+  pub stop : (w : Pair) → Probed (to c.foot) ps qs w → dot (to c.foot) (to c.foot) ≤ℤ (c.extent *ℤ dot (to c.foot) (between w)) → Ended ps qs c
   stop w p k = found (nearest_by_supports ps qs (carried c) (spot w.first) (spot w.second) (all-between ps qs (pairs c.simplex) h.corners) mean p.first p.second k)
 
   -- the bodies meet
-  pub meet : at c.foot ≡ origin → Ended ps qs c
+  pub meet : to c.foot ≡ origin → Ended ps qs c
   meet e = found (nearest_stops ps qs (carried c) (stopping_at_origin ps qs (carried c) e) (difference_of_corners ps qs (all-between ps qs (pairs c.simplex) h.corners) mean))
 
   -- the next carrier
@@ -91,7 +96,7 @@ module _ {ps qs : List Pt} {c : Carrier} (h : Held ps qs c) where
   again w r k t = record { vs = pairs c.simplex ++ w ∷ []; carried = t; corners = All-weaker _ _ (λ x i. all-has (CornersOf ps qs) (pairs c.simplex ++ w ∷ []) x (All-push (CornersOf ps qs) (pairs c.simplex) w h.corners k) i) (pairs r.simplex) t.among }
 
   -- its measure falls
-  module _ (w : Pair) (l : (c.extent *ℤ dot (at c.foot) (between w)) <ℤ dot (at c.foot) (at c.foot)) where
+  module _ (w : Pair) (l : (c.extent *ℤ dot (to c.foot) (between w)) <ℤ dot (to c.foot) (to c.foot)) where
     pub falls : (r : Carrier) → Carried (pairs c.simplex ++ w ∷ []) r → measure 66382848 (carried r) < measure 66382848 (carried c)
     falls r t = measure_falls 66382848 (carried r) (carried c) (positive r) (positive c) (below r) (below c) shorter
       where

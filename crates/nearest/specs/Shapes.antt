@@ -5,15 +5,15 @@ use Rattle.integers.specs.Points.{dot}
 use Rattle.convex.specs.Fractions.{Frac, ◌÷◌, NoLonger}
 use Rattle.convex.specs.Means.{Mean}
 use Rattle.convex.specs.Simplices.{weights, Carries}
-use Rattle.exact.specs.Space.{at}
 use Rattle.nearest.specs.declared.pair.Pair.{Pair}
 use Rattle.nearest.specs.declared.carrier.Carrier.{Carrier}
+use Rattle.nearest.specs.Vectors.{to}
 use Rattle.nearest.specs.Pairs.{between, betweens}
 use Rattle.nearest.specs.Simplices.{pairs, points}
 
 -- the point that c carries
 abbrev pub carried : Carrier → Frac
-carried c = at c.foot ÷ c.extent
+carried c = to c.foot ÷ c.extent
 
 -- c has some of the pairs vs, and its foot is the shortest mean of all
 pub record Carried (vs : List Pair) (c : Carrier) : Type 0 where
@@ -46,5 +46,5 @@ Chosen k vs (Some c) (Some r) = Better k vs c r
 
 -- what the pairs of c carry together with w, or nothing where the difference of w does not lie on the near side of what c carries
 abbrev pub Grown : Carrier → Pair → Option Carrier → Type 0
-Grown c w None = dot (at c.foot) (at c.foot) ≤ℤ (c.extent *ℤ dot (at c.foot) (between w))
-Grown c w (Some r) = ((c.extent *ℤ dot (at c.foot) (between w)) <ℤ dot (at c.foot) (at c.foot)) × Carried (pairs c.simplex ++ w ∷ []) r
+Grown c w None = dot (to c.foot) (to c.foot) ≤ℤ (c.extent *ℤ dot (to c.foot) (between w))
+Grown c w (Some r) = ((c.extent *ℤ dot (to c.foot) (between w)) <ℤ dot (to c.foot) (to c.foot)) × Carried (pairs c.simplex ++ w ∷ []) r

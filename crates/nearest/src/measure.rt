@@ -3,13 +3,12 @@ ghost use Rattle.std.specs.Prelude.{◌≡◌};
 ghost use Rattle.convex.specs.Simplices.{weights as weights_of};
 ghost use Rattle.nearest.specs.Simplices.{pairs, points};
 ghost use Rattle.nearest.specs.Measurements.{blank as blank_of, Measured};
-ghost use Rattle.nearest.specs.Reports.{weighed, listed, padded, Told};
+ghost use Rattle.nearest.specs.Reports.{listed, padded, Told};
 
 use crate::body::Body;
 use crate::carrier::Carrier;
 use crate::measurement::{Measurement, Witness};
-use crate::pair::Pair;
-use crate::rounds::nearest;
+use crate::rounds::Bodies;
 use crate::simplex::Simplex;
 use crate::span::Span;
 use crate::steps::gap;
@@ -29,39 +28,28 @@ fn blank() -> Witness
     }
 }
 
-// The pair with a weight.
-fn witness(pair: Pair, weight: i64) -> Witness
-    ensures { result ≡ weighed pair weight }
-{
-    Witness {
-        first: pair.first,
-        second: pair.second,
-        weight,
-    }
-}
-
 // The pairs of a simplex with their weights, and blank ones after them.
 fn witnesses(s: Simplex) -> [Witness; 4]
     ensures { result ≡ padded (listed (pairs s) (weights_of (points s))) }
 {
     let none = blank();
     match s {
-        Simplex::One(a) => [witness(a, 1), none, none, none],
+        Simplex::One(a) => [a.weighed(1), none, none, none],
         Simplex::Two(s) => {
             let [k, l]: [i64; 2] = s.weights();
-            [witness(s.a, k), witness(s.b, l), none, none]
+            [s.a.weighed(k), s.b.weighed(l), none, none]
         }
         Simplex::Three(s) => {
             let [k, l, m]: [i64; 3] = s.weights();
-            [witness(s.a, k), witness(s.b, l), witness(s.c, m), none]
+            [s.a.weighed(k), s.b.weighed(l), s.c.weighed(m), none]
         }
         Simplex::Four(s) => {
             let [k, l, m, n]: [i64; 4] = s.weights();
             [
-                witness(s.a, k),
-                witness(s.b, l),
-                witness(s.c, m),
-                witness(s.d, n),
+                s.a.weighed(k),
+                s.b.weighed(l),
+                s.c.weighed(m),
+                s.d.weighed(n),
             ]
         }
     }
@@ -78,7 +66,7 @@ fn report(found: Carrier) -> Measurement
     }
     .lowest();
     let fraction = Fraction {
-        point: found.foot,
+        point: found.foot.end(),
         over: found.extent,
     }
     .lowest();
@@ -96,6 +84,6 @@ fn report(found: Carrier) -> Measurement
 pub fn measure<F: Body, G: Body>(first: &F, second: &G) -> Result<Measurement, Refusal>
     ensures { Measured (F.Body.corners first.now) (G.Body.corners second.now) result }
 {
-    let found = nearest(first, second)?;
+    let found = Bodies { first, second }.nearest()?;
     Ok(report(found))
 }

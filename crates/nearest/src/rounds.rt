@@ -1,7 +1,6 @@
 // The search for the nearest difference: from one pair of corners, round by round, each time with the pair that lies farthest on the near side.
-ghost use Rattle.std.specs.Prelude.{◌≡◌, true};
-ghost use Rattle.integers.specs.Points.{origin};
-ghost use Rattle.exact.specs.Space.{at, Within};
+ghost use Rattle.integers.specs.Space.{Near};
+ghost use Rattle.nearest.specs.Vectors.{to};
 ghost use Rattle.nearest.specs.Bodies.{OfBoth};
 ghost use Rattle.nearest.specs.Searches.{Probed, Ended};
 
@@ -10,44 +9,44 @@ use crate::carrier::Carrier;
 use crate::pair::Pair;
 use crate::span::Span;
 use crate::steps::grown;
-use crate::vectors::opposite;
+use crate::vectors::Vector;
 use exact::direction::Direction;
-use exact::point::Point;
 use refusals::Refusal;
 
-// Whether a point is the origin.
-fn is_origin(p: Point) -> bool
-    ensures { result ≡ true → at p ≡ origin }
-{
-    p.x == 0 && p.y == 0 && p.z == 0
+// The two bodies between which the nearest difference is sought.
+#[derive_where(Clone, Copy)]
+pub(crate) struct Bodies<'a, F, G> {
+    pub(crate) first: &'a F,
+    pub(crate) second: &'a G,
 }
 
-// The pair whose difference lies farthest against d.
-fn probe<F: Body, G: Body>(first: &F, second: &G, d: Point) -> Result<Pair, Refusal>
-    requires { Within 1000000000 d }
-    ensures { OfBoth (Probed (at d)) (F.Body.corners first.now) (G.Body.corners second.now) result }
-{
-    let back = opposite(d);
-    let a = first.farthest(Direction { along: back })?;
-    let b = second.farthest(Direction { along: d })?;
-    Ok(Pair {
-        first: a,
-        second: b,
-    })
-}
-
-// The simplex that carries the nearest difference.
-pub(crate) fn nearest<F: Body, G: Body>(first: &F, second: &G) -> Result<Carrier, Refusal>
-    ensures { OfBoth Ended (F.Body.corners first.now) (G.Body.corners second.now) result }
-{
-    let from = probe(first, second, Point { x: -1, y: 0, z: 0 })?;
-    let mut near = from.nearest();
-    while !is_origin(near.foot) {
-        let w = probe(first, second, near.foot)?;
-        let Some(next) = grown(near, w) else {
-            return Ok(near);
-        };
-        near = next;
+impl<F: Body, G: Body> Bodies<'_, F, G> {
+    // The pair whose difference lies farthest against d.
+    fn probe(&self, d: Vector) -> Result<Pair, Refusal>
+        requires { Near 1000000000 (to d) }
+        ensures { OfBoth (Probed (to d)) (F.Body.corners self.now.first.now) (G.Body.corners self.now.second.now) result }
+    {
+        let back = Direction { along: (-d).end() };
+        let onward = Direction { along: d.end() };
+        Ok(Pair {
+            first: self.first.farthest(back)?,
+            second: self.second.farthest(onward)?,
+        })
     }
-    Ok(near)
+
+    // The simplex that carries the nearest difference.
+    pub(crate) fn nearest(&self) -> Result<Carrier, Refusal>
+        ensures { OfBoth Ended (F.Body.corners self.now.first.now) (G.Body.corners self.now.second.now) result }
+    {
+        let from = self.probe(Vector { x: -1, y: 0, z: 0 })?;
+        let mut near = from.nearest();
+        while near.foot != Vector::ZERO {
+            let w = self.probe(near.foot)?;
+            let Some(next) = grown(near, w) else {
+                return Ok(near);
+            };
+            near = next;
+        }
+        Ok(near)
+    }
 }

@@ -1,69 +1,41 @@
 // The foot of the perpendicular from the origin to the line, plane or space through two to four corner differences: weights, sum and total.
 ghost use Rattle.std.specs.Prelude.{◌≡◌, [], ◌∷◌};
-ghost use Rattle.integers.specs.Points.{◌-ᵛ◌, det};
+ghost use Rattle.integers.specs.Points.{det};
 ghost use Rattle.convex.specs.Simplices.{normal as normal_of, volume as volume_of};
-ghost use Rattle.exact.specs.Space.{at};
+ghost use Rattle.nearest.specs.Vectors.{to};
 ghost use Rattle.nearest.specs.Pairs.{between};
 
 use crate::carrier::Carrier;
 use crate::pair::Pair;
 use crate::simplex::{Edge, Simplex, Solid, Triangle};
 use crate::span::{Span, or_face};
-use crate::vectors::{cross, dot, minus, plus, scaled};
-use exact::point::Point;
-
-// The difference of the two corners.
-pub(crate) fn difference(a: Pair) -> Point
-    ensures { at result ≡ between a }
-{
-    let p = a.first.point();
-    let q = a.second.point();
-    minus(p, q)
-}
-
-// The edge from a to b.
-fn along(a: Pair, b: Pair) -> Point
-    ensures { at result ≡ between b -ᵛ between a }
-{
-    let p = difference(a);
-    let q = difference(b);
-    minus(q, p)
-}
+use crate::vectors::Vector;
 
 // The normal of a triangle: twice its area long.
-fn normal(a: Pair, b: Pair, c: Pair) -> Point
-    ensures { at result ≡ normal_of (between a) (between b) (between c) }
+fn normal(a: Pair, b: Pair, c: Pair) -> Vector
+    ensures { to result ≡ normal_of (between a) (between b) (between c) }
 {
-    let p = difference(a);
-    let q = difference(b);
-    let r = difference(c);
-    let pq = cross(p, q);
-    let qr = cross(q, r);
-    let rp = cross(r, p);
-    let s = plus(pq, qr);
-    plus(s, rp)
+    let p = a.difference();
+    let q = b.difference();
+    let r = c.difference();
+    p.cross(q) + q.cross(r) + r.cross(p)
 }
 
 // Six times the volume of the solid that three differences span with the origin, with a sign.
 fn determinant(a: Pair, b: Pair, c: Pair) -> i64
     ensures { result ≡ det (between a) (between b) (between c) }
 {
-    let p = difference(a);
-    let q = difference(b);
-    let r = difference(c);
-    let qr = cross(q, r);
-    dot(p, qr)
+    let p = a.difference();
+    let q = b.difference();
+    let r = c.difference();
+    p.dot(q.cross(r))
 }
 
 // Six times the volume of a solid, with a sign; zero where the four lie in one plane.
 fn volume(a: Pair, b: Pair, c: Pair, d: Pair) -> i64
     ensures { result ≡ volume_of (between a) (between b) (between c) (between d) }
 {
-    let n = normal(a, b, c);
-    let s = difference(d);
-    let k = dot(n, s);
-    let l = determinant(a, b, c);
-    k - l
+    normal(a, b, c).dot(d.difference()) - determinant(a, b, c)
 }
 
 // A single pair is its own foot.
@@ -74,8 +46,8 @@ impl Span<1> for Pair {
         [1]
     }
 
-    fn foot(self) -> Point {
-        difference(self)
+    fn foot(self) -> Vector {
+        self.difference()
     }
 
     fn extent(self) -> i64 {
@@ -97,31 +69,23 @@ impl Span<2> for Edge {
     ghost pairs = { λ s. s.a ∷ s.b ∷ [] };
 
     fn weights(self) -> [i64; 2] {
-        let Edge { a, b } = self;
-        let p = difference(a);
-        let q = difference(b);
-        let e = along(a, b);
-        let k = dot(q, e);
-        let l = dot(p, e);
-        [k, -l]
+        let p = self.a.difference();
+        let q = self.b.difference();
+        let e = q - p;
+        [q.dot(e), -p.dot(e)]
     }
 
-    fn foot(self) -> Point {
-        let Edge { a, b } = self;
-        let p = difference(a);
-        let q = difference(b);
-        let e = along(a, b);
-        let k = dot(q, e);
-        let l = dot(p, e);
-        let left = scaled(k, p);
-        let right = scaled(l, q);
-        minus(left, right)
+    fn foot(self) -> Vector {
+        let p = self.a.difference();
+        let q = self.b.difference();
+        let e = q - p;
+        q.dot(e) * p - p.dot(e) * q
     }
 
     // The square of the edge.
     fn extent(self) -> i64 {
-        let e = along(self.a, self.b);
-        dot(e, e)
+        let e = self.b.difference() - self.a.difference();
+        e.dot(e)
     }
 
     fn simplex(self) -> Simplex {
@@ -145,28 +109,21 @@ impl Span<3> for Triangle {
     ghost pairs = { λ s. s.a ∷ s.b ∷ s.c ∷ [] };
 
     fn weights(self) -> [i64; 3] {
-        let Triangle { a, b, c } = self;
-        let n = normal(a, b, c);
-        let p = difference(a);
-        let q = difference(b);
-        let r = difference(c);
-        let qr = cross(q, r);
-        let rp = cross(r, p);
-        let pq = cross(p, q);
-        [dot(n, qr), dot(n, rp), dot(n, pq)]
+        let n = normal(self.a, self.b, self.c);
+        let p = self.a.difference();
+        let q = self.b.difference();
+        let r = self.c.difference();
+        [n.dot(q.cross(r)), n.dot(r.cross(p)), n.dot(p.cross(q))]
     }
 
-    fn foot(self) -> Point {
-        let Triangle { a, b, c } = self;
-        let n = normal(a, b, c);
-        let d = determinant(a, b, c);
-        scaled(d, n)
+    fn foot(self) -> Vector {
+        determinant(self.a, self.b, self.c) * normal(self.a, self.b, self.c)
     }
 
     // The square of the normal.
     fn extent(self) -> i64 {
         let n = normal(self.a, self.b, self.c);
-        dot(n, n)
+        n.dot(n)
     }
 
     fn simplex(self) -> Simplex {
@@ -203,8 +160,8 @@ impl Span<4> for Solid {
         }
     }
 
-    fn foot(self) -> Point {
-        Point { x: 0, y: 0, z: 0 }
+    fn foot(self) -> Vector {
+        Vector::ZERO
     }
 
     // The size of the volume.

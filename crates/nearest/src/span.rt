@@ -1,8 +1,8 @@
 // The nearest point of a simplex: its foot where all weights are positive, and else the best of its faces across a weight that is not.
 ghost use Rattle.std.specs.Prelude.{◌≡◌, List};
 ghost use Rattle.convex.specs.Simplices.{weights as weights_of, foot as foot_of, extent as extent_of};
-ghost use Rattle.exact.specs.Space.{at};
 ghost use Rattle.nearest.specs.declared.pair.Pair.{Pair};
+ghost use Rattle.nearest.specs.Vectors.{to};
 ghost use Rattle.nearest.specs.Pairs.{betweens};
 ghost use Rattle.nearest.specs.Simplices.{pairs as pairs_of};
 ghost use Rattle.nearest.specs.Shapes.{Carried, ByFaces, Chosen};
@@ -10,7 +10,7 @@ ghost use Rattle.nearest.specs.Shapes.{Carried, ByFaces, Chosen};
 use crate::carrier::Carrier;
 use crate::simplex::Simplex;
 use crate::steps::shorter;
-use exact::point::Point;
+use crate::vectors::Vector;
 
 // A simplex of N pairs. The foot is the sum of the differences by the weights, over their total, the extent.
 pub(crate) trait Span<const N: usize>: Copy {
@@ -22,8 +22,8 @@ pub(crate) trait Span<const N: usize>: Copy {
         ensures { weights_of (betweens (pairs self)) ≡ result };
 
     // The sum of the differences by these weights.
-    fn foot(self) -> Point
-        ensures { at result ≡ foot_of (betweens (pairs self)) };
+    fn foot(self) -> Vector
+        ensures { to result ≡ foot_of (betweens (pairs self)) };
 
     // The total of these weights.
     fn extent(self) -> i64

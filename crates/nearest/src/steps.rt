@@ -3,7 +3,7 @@ ghost use Rattle.std.specs.Prelude.{◌≡◌, true, false, ◌≤◌, pos, ◌*
 ghost use Rattle.std.specs.List.{ContainsAt as Has};
 ghost use Rattle.integers.specs.Points.{dot as dotted};
 ghost use Rattle.convex.specs.Fractions.{SquareOf};
-ghost use Rattle.exact.specs.Space.{at};
+ghost use Rattle.nearest.specs.Vectors.{to};
 ghost use Rattle.nearest.specs.Pairs.{between};
 ghost use Rattle.nearest.specs.Simplices.{points};
 ghost use Rattle.nearest.specs.Shapes.{carried, Lesser, Grown};
@@ -11,20 +11,18 @@ ghost use Rattle.nearest.specs.Shapes.{carried, Lesser, Grown};
 use crate::carrier::Carrier;
 use crate::pair::Pair;
 use crate::simplex::{Edge, Simplex, Solid, Triangle};
-use crate::solves::difference;
 use crate::span::Span;
-use crate::vectors::dot;
-use exact::point::Point;
+use crate::vectors::Vector;
 
 // A corner of the simplex.
-fn corner(s: Simplex) -> Point
-    ensures { Has (points s) (at result) }
+fn corner(s: Simplex) -> Vector
+    ensures { Has (points s) (to result) }
 {
     match s {
-        Simplex::One(a) => difference(a),
-        Simplex::Two(s) => difference(s.a),
-        Simplex::Three(s) => difference(s.a),
-        Simplex::Four(s) => difference(s.a),
+        Simplex::One(a) => a.difference(),
+        Simplex::Two(s) => s.a.difference(),
+        Simplex::Three(s) => s.a.difference(),
+        Simplex::Four(s) => s.a.difference(),
     }
 }
 
@@ -34,8 +32,7 @@ pub(crate) fn gap(c: Carrier) -> i64
     ensures low { pos 0 ≤ℤ result }
     ensures high { unsigned_abs result ≤ 17348050944 }
 {
-    let p = corner(c.simplex);
-    dot(c.foot, p)
+    c.foot.dot(corner(c.simplex))
 }
 
 // The shorter of two carried points, and the first where they are equally long.
@@ -53,13 +50,10 @@ pub(crate) fn shorter(c: Carrier, d: Carrier) -> Carrier
 
 // Whether the difference of w lies on the near side of the carried point.
 fn nearer(c: Carrier, w: Pair) -> bool
-    ensures yes { result ≡ true → (c.extent *ℤ dotted (at c.foot) (between w)) <ℤ dotted (at c.foot) (at c.foot) }
-    ensures no { result ≡ false → dotted (at c.foot) (at c.foot) ≤ℤ (c.extent *ℤ dotted (at c.foot) (between w)) }
+    ensures yes { result ≡ true → (c.extent *ℤ dotted (to c.foot) (between w)) <ℤ dotted (to c.foot) (to c.foot) }
+    ensures no { result ≡ false → dotted (to c.foot) (to c.foot) ≤ℤ (c.extent *ℤ dotted (to c.foot) (between w)) }
 {
-    let p = difference(w);
-    let k = dot(c.foot, p);
-    let s = dot(c.foot, c.foot);
-    c.extent * k < s
+    c.extent * c.foot.dot(w.difference()) < c.foot.dot(c.foot)
 }
 
 // The nearest point of the simplex with one more pair, or nothing where the difference of the pair is not on the near side.

@@ -2,29 +2,32 @@ use Rattle.std.proofs.Common.{◌≡◌, List, [], ◌∷◌, pos, ◌-ℤ◌, s
 use Rattle.integers.specs.Points.{◌-ᵛ◌, dot}
 use Rattle.integers.proofs.Solver.{var, con, ◌⊖◌}
 use Rattle.integers.proofs.Overflow.{Bv, fits, kept_is}
-use Rattle.nearest.specs.Pairs.{between}
 use Rattle.integers.proofs.Environments.{num}
 use Rattle.convex.proofs.Sizes.{near_by, size_by}
-use Rattle.nearest.proofs.Rooms.{roomy}
+use Rattle.nearest.specs.Pairs.{between}
+use Rattle.nearest.proofs.Rooms.{wide_by, roomy}
 use Rattle.nearest.proofs.Pairs.{near-between, near_edge, size_edge_first, size_edge_second}
 use Rattle.nearest.proofs.Signs.{neg_is}
 use Rattle.nearest.proofs.solves.EdgeSpan2.weights.Goals as goal
 
-pub dot-k-requires : goal.dot-k-requires
-dot-k-requires c = roomy 28 56 (near_by c.difference-q.ensures (near-between c.args.self.b)) (near_by c.along-e.ensures (near_edge c.args.self.a c.args.self.b)) tt tt tt
+pub sub-e-requires : goal.sub-e-requires
+sub-e-requires c = (wide_by c.difference-q.ensures (near-between c.args.self.b) tt, wide_by c.difference-p.ensures (near-between c.args.self.a) tt)
 
-pub dot-l-requires : goal.dot-l-requires
-dot-l-requires c = roomy 28 56 (near_by c.difference-p.ensures (near-between c.args.self.a)) (near_by c.along-e.ensures (near_edge c.args.self.a c.args.self.b)) tt tt tt
+pub dot-requires : goal.dot-requires
+dot-requires c = roomy 28 56 (near_by c.difference-q.ensures (near-between c.args.self.b)) (near_by (c.sub-e.ensures ∙ ap₂ ◌-ᵛ◌ c.difference-q.ensures c.difference-p.ensures) (near_edge c.args.self.a c.args.self.b)) tt tt tt
+
+pub dot-requires-2 : goal.dot-requires-2
+dot-requires-2 c = roomy 28 56 (near_by c.difference-p.ensures (near-between c.args.self.a)) (near_by (c.sub-e.ensures ∙ ap₂ ◌-ᵛ◌ c.difference-q.ensures c.difference-p.ensures) (near_edge c.args.self.a c.args.self.b)) tt tt tt
 
 -- what the two products come to
-k-is : (c : goal.After-dot-l) → c.dot-k.result ≡ dot (between c.args.self.b) (between c.args.self.b -ᵛ between c.args.self.a)
-k-is c = c.dot-k.ensures ∙ ap₂ dot c.difference-q.ensures c.along-e.ensures
+k-is : (c : goal.After-dot-2) → c.dot.result ≡ dot (between c.args.self.b) (between c.args.self.b -ᵛ between c.args.self.a)
+k-is c = c.dot.ensures ∙ ap₂ dot c.difference-q.ensures (c.sub-e.ensures ∙ ap₂ ◌-ᵛ◌ c.difference-q.ensures c.difference-p.ensures)
 
-l-is : (c : goal.After-dot-l) → c.dot-l.result ≡ dot (between c.args.self.a) (between c.args.self.b -ᵛ between c.args.self.a)
-l-is c = c.dot-l.ensures ∙ ap₂ dot c.difference-p.ensures c.along-e.ensures
+l-is : (c : goal.After-dot-2) → c.dot-2.result ≡ dot (between c.args.self.a) (between c.args.self.b -ᵛ between c.args.self.a)
+l-is c = c.dot-2.ensures ∙ ap₂ dot c.difference-p.ensures (c.sub-e.ensures ∙ ap₂ ◌-ᵛ◌ c.difference-q.ensures c.difference-p.ensures)
 
-abbrev env : goal.After-dot-l → List Bv
-env c = num c.dot-k.result (size_by (k-is c) (size_edge_second c.args.self.a c.args.self.b)) (num c.dot-l.result (size_by (l-is c) (size_edge_first c.args.self.a c.args.self.b)) [])
+abbrev env : goal.After-dot-2 → List Bv
+env c = num c.dot.result (size_by (k-is c) (size_edge_second c.args.self.a c.args.self.b)) (num c.dot-2.result (size_by (l-is c) (size_edge_first c.args.self.a c.args.self.b)) [])
 
 pub overflow_sub-result : goal.overflow_sub-result
 overflow_sub-result c = fits w64 (env c) (con (pos 0) ⊖ var 1) tt

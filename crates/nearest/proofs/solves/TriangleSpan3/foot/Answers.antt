@@ -6,8 +6,8 @@ use Rattle.nearest.proofs.Rooms.{scaly}
 use Rattle.nearest.proofs.Pairs.{near-normal, size_det}
 use Rattle.nearest.proofs.solves.TriangleSpan3.foot.Goals as goal
 
-pub scaled-requires : goal.scaled-requires
-scaled-requires c = scaly 131712 4704 (size_by (passed c.determinant-d.result c.determinant-d.type_inv ∙ c.determinant-d.ensures) (size_det c.args.self.a c.args.self.b c.args.self.c)) (near_by c.normal-n.ensures (near-normal c.args.self.a c.args.self.b c.args.self.c)) tt tt tt
+pub mul-requires : goal.mul-requires
+mul-requires c = scaly 131712 4704 (size_by (passed c.determinant.result c.determinant.type_inv ∙ c.determinant.ensures) (size_det c.args.self.a c.args.self.b c.args.self.c)) (near_by c.normal.ensures (near-normal c.args.self.a c.args.self.b c.args.self.c)) tt tt tt
 
 pub returns : goal.returns
-returns c = c.scaled.ensures ∙ ap₂ ◌·ᵛ◌ (passed c.determinant-d.result c.determinant-d.type_inv ∙ c.determinant-d.ensures) c.normal-n.ensures
+returns c = c.mul.ensures ∙ ap₂ ◌·ᵛ◌ (passed c.determinant.result c.determinant.type_inv ∙ c.determinant.ensures) c.normal.ensures

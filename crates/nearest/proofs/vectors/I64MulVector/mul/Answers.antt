@@ -3,7 +3,7 @@ use Rattle.integers.proofs.Solver.{var, ◌⊗◌}
 use Rattle.integers.proofs.Vectors.{pt, ◌⊗ᵛ◌}
 use Rattle.integers.proofs.Overflow.{fits, kept_is_v}
 use Rattle.nearest.proofs.Rooms.{scale, scale-fits}
-use Rattle.nearest.proofs.vectors.scaled.Goals as goal
+use Rattle.nearest.proofs.vectors.I64MulVector.mul.Goals as goal
 
 pub overflow_mul-result : goal.overflow_mul-result
 overflow_mul-result c = fits w64 (scale c.requires) (var 3 ⊗ (pt 0).x) (scale-fits c.requires)

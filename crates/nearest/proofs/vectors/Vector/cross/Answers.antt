@@ -3,7 +3,7 @@ use Rattle.integers.proofs.Solver.{◌⊗◌}
 use Rattle.integers.proofs.Vectors.{pt, cross_e}
 use Rattle.integers.proofs.Overflow.{fits, kept_is_v}
 use Rattle.nearest.proofs.Rooms.{room, one-fits, two_fit}
-use Rattle.nearest.proofs.vectors.cross.Goals as goal
+use Rattle.nearest.proofs.vectors.Vector.cross.Goals as goal
 
 pub overflow_mul-result : goal.overflow_mul-result
 overflow_mul-result c = fits w64 (room c.requires) ((pt 0).y ⊗ (pt 1).z) (one-fits c.requires)

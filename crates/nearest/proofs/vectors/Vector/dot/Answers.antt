@@ -3,7 +3,7 @@ use Rattle.integers.proofs.Solver.{◌⊕◌, ◌⊗◌}
 use Rattle.integers.proofs.Vectors.{pt, dot_e}
 use Rattle.integers.proofs.Overflow.{fits, kept_is}
 use Rattle.nearest.proofs.Rooms.{room, one-fits, two_fit, three_fit}
-use Rattle.nearest.proofs.vectors.dot.Goals as goal
+use Rattle.nearest.proofs.vectors.Vector.dot.Goals as goal
 
 pub overflow_mul-result : goal.overflow_mul-result
 overflow_mul-result c = fits w64 (room c.requires) ((pt 0).x ⊗ (pt 1).x) (one-fits c.requires)
