@@ -1,5 +1,5 @@
 -- How large what is computed from pairs of corners gets.
-use Rattle.std.proofs.Common.{◌≡◌, ℕ, zero, suc, ◌≤◌, List, [], ◌∷◌, length, get_or, ℤ, pos, negsuc, ◌*ℤ◌, neg_ℤ, nat_abs, ◌<ℤ◌, sym, refl, ap, ap₂, subst, arith, leb→le, w64, to_z, of_z}
+use Rattle.std.proofs.Common.{◌≡◌, ℕ, ◌^◌, zero, suc, ◌≤◌, List, [], ◌∷◌, length, get_or, ℤ, pos, negsuc, ◌*ℤ◌, neg_ℤ, nat_abs, ◌<ℤ◌, sym, refl, ap, ap₂, subst, arith, leb→le, w64, to_z, of_z}
 use Rattle.std.proofs.lemmas.Int.{ints}
 use Rattle.std.specs.List.{ContainsAt as Has, AllByRecursion}
 use Rattle.std.proofs.ByRecursion.{all-has}
@@ -17,12 +17,14 @@ use Rattle.convex.proofs.Sizes.{sized, size_by, near_by}
 use Rattle.exact.specs.Spots.{spot}
 use Rattle.nearest.specs.declared.pair.Pair.{Pair}
 use Rattle.nearest.specs.declared.carrier.Carrier.{Carrier}
+use Rattle.nearest.specs.Room.{Room}
 use Rattle.nearest.specs.Vectors.{to}
 use Rattle.nearest.specs.Pairs.{between, betweens}
 use Rattle.nearest.specs.declared.simplex.Simplex.{Simplex}
 use Rattle.nearest.specs.declared.simplex.Simplex.TheVariants.{One, Two, Three, Four}
 use Rattle.nearest.specs.Simplices.{pairs, points}
 use Rattle.nearest.specs.Shapes.{carried}
+use Rattle.nearest.proofs.Rooms.{roomy, wide_by}
 
 pub length-betweens : (vs : List Pair) → length (betweens vs) ≡ length vs
 length-betweens [] = refl
@@ -34,6 +36,13 @@ near-between v = sizes.near-between (spot v.first) (spot v.second) v.first.near 
 pub all_near : (vs : List Pair) → AllByRecursion (Near 28) (betweens vs)
 all_near [] = tt
 all_near (v ∷ vs) = (near-between v, all_near vs)
+
+-- so what the code computes of them has room for products, and for a sum
+pub room_of : (a b : Pair) {p q : Pt} → p ≡ between a → q ≡ between b → Room p q
+room_of a b e f = roomy 28 28 (near_by e (near-between a)) (near_by f (near-between b)) tt tt tt
+
+pub wide_of : (a : Pair) {p : Pt} → p ≡ between a → Near (2 ^ 60) p
+wide_of a e = wide_by e (near-between a) tt
 
 -- ---- of two pairs
 module _ (a b : Pair) where

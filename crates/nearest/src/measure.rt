@@ -17,7 +17,7 @@ use exact::fraction::Fraction;
 use exact::gap::Gap;
 use refusals::Refusal;
 
-// No witness: both corners at the origin, and the weight 0.
+// No witness: both corners at the origin, and the weight 0. As a constant its corners would be proved to be near anew at each use.
 fn blank() -> Witness
     ensures { result ≡ blank_of }
 {
@@ -70,13 +70,11 @@ fn report(found: Carrier) -> Measurement
         over: found.extent,
     }
     .lowest();
-    let (d, w) = (fraction.point, fraction.over);
-    let witnesses = witnesses(found.simplex);
     Measurement {
-        d,
-        w,
+        d: fraction.point,
+        w: fraction.over,
         gap: ratio,
-        witnesses,
+        witnesses: witnesses(found.simplex),
     }
 }
 

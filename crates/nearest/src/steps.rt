@@ -41,11 +41,7 @@ pub(crate) fn shorter(c: Carrier, d: Carrier) -> Carrier
 {
     let k = gap(c);
     let l = gap(d);
-    let second = l * c.extent < k * d.extent;
-    if second {
-        return d;
-    }
-    c
+    if l * c.extent < k * d.extent { d } else { c }
 }
 
 // Whether the difference of w lies on the near side of the carried point.
@@ -60,8 +56,7 @@ fn nearer(c: Carrier, w: Pair) -> bool
 pub(crate) fn grown(c: Carrier, w: Pair) -> Option<Carrier>
     ensures { Grown c w result }
 {
-    let onward = nearer(c, w);
-    if !onward {
+    if !nearer(c, w) {
         return None;
     }
     Some(match c.simplex {

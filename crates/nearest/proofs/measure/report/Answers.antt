@@ -27,5 +27,5 @@ returns c =
       gap = c.gap-square.result;
       square = c.gap-square.ensures.square;
       ratio = subst₂ (λ k w. Reduced (k ∷ w ∷ []) (pos c.lowest-ratio.result.p ∷ pos c.lowest-ratio.result.q ∷ [])) (cast_is _ c.gap-square.result (passed c.gap-square.result c.gap-square.type_inv) c.gap-square.ensures.low) (cast_is _ c.args.found.extent (extent-kept c.args.found) (<ℤ→≤ℤ (positive c.args.found))) c.lowest-ratio.ensures;
-      witnesses = c.witnesses-witnesses.ensures;
+      witnesses = c.witnesses.ensures;
     }

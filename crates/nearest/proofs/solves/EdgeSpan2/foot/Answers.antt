@@ -3,11 +3,11 @@ use Rattle.integers.specs.Points.{◌-ᵛ◌, ◌·ᵛ◌, dot}
 use Rattle.integers.proofs.Overflow.{passed}
 use Rattle.convex.proofs.Sizes.{near_by, size_by}
 use Rattle.nearest.proofs.Rooms.{wide_by, roomy, scaly}
-use Rattle.nearest.proofs.Pairs.{near-between, near_edge, size_edge_first, size_edge_second, near_first, near-second}
+use Rattle.nearest.proofs.Pairs.{wide_of, near-between, near_edge, size_edge_first, size_edge_second, near_first, near-second}
 use Rattle.nearest.proofs.solves.EdgeSpan2.foot.Goals as goal
 
 pub sub-e-requires : goal.sub-e-requires
-sub-e-requires c = (wide_by c.difference-q.ensures (near-between c.args.self.b) tt, wide_by c.difference-p.ensures (near-between c.args.self.a) tt)
+sub-e-requires c = (wide_of c.args.self.b c.difference-q.ensures, wide_of c.args.self.a c.difference-p.ensures)
 
 pub dot-requires : goal.dot-requires
 dot-requires c = roomy 28 56 (near_by c.difference-q.ensures (near-between c.args.self.b)) (near_by (c.sub-e.ensures ∙ ap₂ ◌-ᵛ◌ c.difference-q.ensures c.difference-p.ensures) (near_edge c.args.self.a c.args.self.b)) tt tt tt

@@ -1,6 +1,3 @@
-use Rattle.std.proofs.Common.{◌∙◌, ap₂}
-use Rattle.integers.specs.Points.{dot}
-use Rattle.integers.proofs.Overflow.{passed}
 use Rattle.convex.proofs.Sizes.{near_by}
 use Rattle.nearest.proofs.Rooms.{roomy}
 use Rattle.nearest.proofs.Pairs.{near-normal}
@@ -8,6 +5,3 @@ use Rattle.nearest.proofs.solves.TriangleSpan3.extent.Goals as goal
 
 pub dot-requires : goal.dot-requires
 dot-requires c = roomy 4704 4704 (near_by c.normal-n.ensures (near-normal c.args.self.a c.args.self.b c.args.self.c)) (near_by c.normal-n.ensures (near-normal c.args.self.a c.args.self.b c.args.self.c)) tt tt tt
-
-pub returns : goal.returns
-returns c = passed c.dot.result c.dot.type_inv ∙ c.dot.ensures ∙ ap₂ dot c.normal-n.ensures c.normal-n.ensures
