@@ -4,11 +4,8 @@ use Rattle.integers.specs.Divisors.{Reduced}
 use Rattle.integers.proofs.Order.{<ℤ→≤ℤ}
 use Rattle.integers.proofs.Overflow.{passed}
 use Rattle.nearest.proofs.Pairs.{positive, size_extent}
-use Rattle.nearest.proofs.Tells.{cast_fits, cast_is, extent-kept, gap_bounds}
+use Rattle.nearest.proofs.Tells.{cast_is, extent-kept, gap_bounds}
 use Rattle.nearest.proofs.measure.report.Goals as goal
-
-pub overflow_cast-found : goal.overflow_cast-found
-overflow_cast-found c = cast_fits _ c.args.found.extent (extent-kept c.args.found) (<ℤ→≤ℤ (positive c.args.found)) (size_extent c.args.found)
 
 pub invariant_of-lowest : goal.invariant_of-lowest
 invariant_of-lowest c =

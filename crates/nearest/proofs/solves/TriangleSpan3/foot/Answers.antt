@@ -1,5 +1,4 @@
-use Rattle.std.proofs.Common.{◌∙◌, ap₂}
-use Rattle.integers.specs.Points.{◌·ᵛ◌}
+use Rattle.std.proofs.Common.{◌∙◌}
 use Rattle.integers.proofs.Overflow.{passed}
 use Rattle.convex.proofs.Sizes.{near_by, size_by}
 use Rattle.nearest.proofs.Rooms.{scaly}
@@ -8,6 +7,3 @@ use Rattle.nearest.proofs.solves.TriangleSpan3.foot.Goals as goal
 
 pub mul-requires : goal.mul-requires
 mul-requires c = scaly 131712 4704 (size_by (passed c.determinant.result c.determinant.type_inv ∙ c.determinant.ensures) (size_det c.args.self.a c.args.self.b c.args.self.c)) (near_by c.normal.ensures (near-normal c.args.self.a c.args.self.b c.args.self.c)) tt tt tt
-
-pub returns : goal.returns
-returns c = c.mul.ensures ∙ ap₂ ◌·ᵛ◌ (passed c.determinant.result c.determinant.type_inv ∙ c.determinant.ensures) c.normal.ensures
