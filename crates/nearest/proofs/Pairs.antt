@@ -1,5 +1,6 @@
 -- How large what is computed from pairs of corners gets.
-use Rattle.std.proofs.Common.{◌≡◌, ℕ, zero, suc, ◌≤◌, List, [], ◌∷◌, length, get_or, ℤ, pos, negsuc, ◌*ℤ◌, neg_ℤ, nat_abs, sym, refl, ap, arith, leb→le, w64, to_z, of_z}
+use Rattle.std.proofs.Common.{◌≡◌, ℕ, ◌^◌, zero, suc, ◌≤◌, List, [], ◌∷◌, length, get_or, ℤ, pos, negsuc, ◌*ℤ◌, neg_ℤ, nat_abs, ◌<ℤ◌, sym, refl, ap, ap₂, subst, arith, leb→le, w64, to_z, of_z}
+use Rattle.std.proofs.lemmas.Int.{ints}
 use Rattle.std.specs.List.{ContainsAt as Has, AllByRecursion}
 use Rattle.std.proofs.ByRecursion.{all-has}
 use Rattle.integers.specs.Points.{Pt, ◌+ᵛ◌, ◌-ᵛ◌, ◌·ᵛ◌, dot, cross, det}
@@ -8,15 +9,22 @@ use Rattle.integers.proofs.Solver.{var, neg, ◌⊗◌}
 use Rattle.integers.proofs.Vectors.{P₀, P₁, P₂, ◌⊖ᵛ◌, dot_e, cross_e}
 use Rattle.integers.proofs.Overflow.{Bv, kept_is}
 use Rattle.integers.proofs.Environments.{num, point}
-use Rattle.convex.specs.Simplices.{normal, volume, sign, weights}
+use Rattle.convex.specs.Fractions.{◌÷◌}
+use Rattle.convex.specs.Simplices.{normal, volume, sign, weights, footing, Independent}
 use Rattle.convex.proofs.Simplices.{normal_e}
 use Rattle.convex.proofs.Sizes as sizes
 use Rattle.convex.proofs.Sizes.{sized, size_by, near_by}
-use Rattle.exact.specs.Space.{at}
 use Rattle.exact.specs.Spots.{spot}
 use Rattle.nearest.specs.declared.pair.Pair.{Pair}
-use Rattle.nearest.specs.declared.simplex.Carrier.{Carrier}
-use Rattle.nearest.specs.Shapes.{between, betweens, pairs, points, Sound}
+use Rattle.nearest.specs.declared.carrier.Carrier.{Carrier}
+use Rattle.nearest.specs.Room.{Room}
+use Rattle.nearest.specs.Vectors.{to}
+use Rattle.nearest.specs.Pairs.{between, betweens}
+use Rattle.nearest.specs.declared.simplex.Simplex.{Simplex}
+use Rattle.nearest.specs.declared.simplex.Simplex.TheVariants.{One, Two, Three, Four}
+use Rattle.nearest.specs.Simplices.{pairs, points}
+use Rattle.nearest.specs.Shapes.{carried}
+use Rattle.nearest.proofs.Rooms.{roomy, wide_by}
 
 pub length-betweens : (vs : List Pair) → length (betweens vs) ≡ length vs
 length-betweens [] = refl
@@ -28,6 +36,13 @@ near-between v = sizes.near-between (spot v.first) (spot v.second) v.first.near 
 pub all_near : (vs : List Pair) → AllByRecursion (Near 28) (betweens vs)
 all_near [] = tt
 all_near (v ∷ vs) = (near-between v, all_near vs)
+
+-- so what the code computes of them has room for products, and for a sum
+pub room_of : (a b : Pair) {p q : Pt} → p ≡ between a → q ≡ between b → Room p q
+room_of a b e f = roomy 28 28 (near_by e (near-between a)) (near_by f (near-between b)) tt tt tt
+
+pub wide_of : (a : Pair) {p : Pt} → p ≡ between a → Near (2 ^ 60) p
+wide_of a e = wide_by e (near-between a) tt
 
 -- ---- of two pairs
 module _ (a b : Pair) where
@@ -103,24 +118,39 @@ pub weight_kept : (vs : List Pair) (i : ℕ) {ws : List ℤ} → weights (betwee
 weight_kept vs i e = kept_is w64 (num _ (size_by (ap (λ ks. get_or ks i (pos 0)) (sym e)) (size_at (weights (betweens vs)) i (size_weights (betweens vs) (all_near vs)))) []) (var 0) tt
 
 -- ---- of a carrier
-module _ {c : Carrier} (s : Sound c) where
-  pub near-foot : Near 619573248 (at c.foot)
-  near-foot = near_by (ap (λ x. x.point) s.is) (sizes.near-foot (points c.simplex) (all_near (pairs c.simplex)))
+-- the differences of a simplex are independent
+pub independent : (s : Simplex) → Independent (points s)
+independent (One a) = record { some = omega arith; few = omega arith; apart = omega (arith, ints) }
+independent (Two s) = s.independent
+independent (Three s) = s.independent
+independent (Four s) = s.independent
+
+module _ (c : Carrier) where
+  -- what it carries is the foot of its simplex
+  pub carried_is : carried c ≡ footing (points c.simplex)
+  carried_is = ap₂ ◌÷◌ c.foot_is c.extent_is
+
+  -- the extent is positive
+  pub positive : pos 0 <ℤ c.extent
+  positive = subst (λ w. pos 0 <ℤ w) (sym c.extent_is) (independent c.simplex).apart
+
+  pub near-foot : Near 619573248 (to c.foot)
+  near-foot = near_by c.foot_is (sizes.near-foot (points c.simplex) (all_near (pairs c.simplex)))
 
   pub size_extent : nat_abs c.extent ≤ 66382848
-  size_extent = size_by (ap (λ x. x.over) s.is) (sizes.size_extent (points c.simplex) (all_near (pairs c.simplex)))
+  size_extent = size_by c.extent_is (sizes.size_extent (points c.simplex) (all_near (pairs c.simplex)))
 
   -- D·w
-  pub size_product : (w : Pt) → Near 28 w → nat_abs (dot (at c.foot) w) ≤ 52044152832
-  size_product w h = size_by (ap (λ x. dot x.point w) s.is) (sizes.size_product (points c.simplex) (all_near (pairs c.simplex)) w h)
+  pub size_product : (w : Pt) → Near 28 w → nat_abs (dot (to c.foot) w) ≤ 52044152832
+  size_product w h = size_by (ap (λ p. dot p w) c.foot_is) (sizes.size_product (points c.simplex) (all_near (pairs c.simplex)) w h)
 
   -- D·D
-  pub size_square : nat_abs (dot (at c.foot) (at c.foot)) ≤ 1151613028911808512
-  size_square = size_by (ap (λ x. dot x.point x.point) s.is) (sizes.size_square (points c.simplex) (all_near (pairs c.simplex)))
+  pub size_square : nat_abs (dot (to c.foot) (to c.foot)) ≤ 1151613028911808512
+  size_square = size_by (ap (λ p. dot p p) c.foot_is) (sizes.size_square (points c.simplex) (all_near (pairs c.simplex)))
 
   pub near_corner : (y : Pt) → Has (points c.simplex) y → Near 28 y
   near_corner y h = all-has (Near 28) (points c.simplex) y (all_near (pairs c.simplex)) h
 
   -- D·y, for a corner y of the simplex
-  pub size_gap : (y : Pt) → Has (points c.simplex) y → nat_abs (dot (at c.foot) y) ≤ 17348050944
-  size_gap y h = size_by (ap (λ x. dot x.point y) s.is) (sizes.size_gap (points c.simplex) y (all_near (pairs c.simplex)) h)
+  pub size_gap : (y : Pt) → Has (points c.simplex) y → nat_abs (dot (to c.foot) y) ≤ 17348050944
+  size_gap y h = size_by (ap (λ p. dot p y) c.foot_is) (sizes.size_gap (points c.simplex) y (all_near (pairs c.simplex)) h)

@@ -21,15 +21,16 @@ use Rattle.convex.proofs.Stopping.{stopping_of_nearest}
 use Rattle.exact.specs.Spots.{Corner, spot}
 use Rattle.exact.specs.Space.{at}
 use Rattle.nearest.specs.declared.pair.Pair.{Pair}
-use Rattle.nearest.specs.declared.simplex.Carrier.{Carrier}
+use Rattle.nearest.specs.declared.carrier.Carrier.{Carrier}
 use Rattle.nearest.specs.declared.measurement.Witness.{Witness}
 use Rattle.nearest.specs.declared.measurement.Measurement.{Measurement}
-use Rattle.nearest.specs.Shapes.{between, betweens, pairs, points, carried, Sound}
+use Rattle.nearest.specs.Pairs.{between, betweens}
+use Rattle.nearest.specs.Simplices.{pairs, points}
+use Rattle.nearest.specs.Shapes.{carried}
 use Rattle.nearest.specs.Searches.{CornersOf, Ended}
 use Rattle.nearest.specs.Measurements.{reported, differences, weights_of, nowhere, blank, Witnessed, Reports, Agrees, Answers}
 use Rattle.nearest.specs.Reports.{listed, Told}
-use Rattle.nearest.proofs.Pairs.{length-betweens, near-foot, size_extent}
-use Rattle.nearest.proofs.Faces.{positive}
+use Rattle.nearest.proofs.Pairs.{length-betweens, independent, carried_is, positive, near-foot, size_extent}
 
 -- ---- the numbers
 -- a number that is not negative, cast to an unsigned one
@@ -41,8 +42,8 @@ pub cast_is : (x y : ℤ) → x ≡ y → pos 0 ≤ℤ y → pos (nat_abs x) ≡
 cast_is x y e p = omega (arith, ints)
 
 -- the extent, as the code holds it
-pub extent-kept : {c : Carrier} → Sound c → to_z w64 (of_z w64 c.extent) ≡ c.extent
-extent-kept {c} s = kept_is w64 (num c.extent (size_extent s) []) (var 0) tt
+pub extent-kept : (c : Carrier) → to_z w64 (of_z w64 c.extent) ≡ c.extent
+extent-kept c = kept_is w64 (num c.extent (size_extent c) []) (var 0) tt
 
 -- the bounds of a gap
 pub gap_bounds : (k w x y : ℤ) → k ≡ x → w ≡ y → nat_abs x ≤ 17348050944 → pos 0 <ℤ y → nat_abs y ≤ 66382848 → (nat_abs k ≤ 18000000000) × (0 < nat_abs w) × (nat_abs w ≤ 120000000)
@@ -102,15 +103,18 @@ module _ (ps qs : List Pt) (c : Carrier) (m : Measurement) (e : Ended ps qs c) (
   abbrev S : List Pt
   S = points c.simplex
 
+  whole : Independent S
+  whole = independent c.simplex
+
   abbrev used : List Witness
   used = listed (pairs c.simplex) (weights S)
 
   one_each : length (weights S) ≡ length (pairs c.simplex)
-  one_each = (foot_laws S e.sound.independent.some e.sound.independent.few).one_each ∙ length-betweens (pairs c.simplex)
+  one_each = (foot_laws S whole.some whole.few).one_each ∙ length-betweens (pairs c.simplex)
 
   -- the foot is the mean of the points by the weights
   mean_is : Same (carried c) (comb (weights S) S ÷ totalℤ (weights S))
-  mean_is = let f = foot_laws S e.sound.independent.some e.sound.independent.few in subst (λ x. Same x (comb (weights S) S ÷ totalℤ (weights S))) (sym e.sound.is) (ap₂ ◌·ᵛ◌ (sym f.whole) f.sum)
+  mean_is = let f = foot_laws S whole.some whole.few in subst (λ x. Same x (comb (weights S) S ÷ totalℤ (weights S))) (sym (carried_is c)) (ap₂ ◌·ᵛ◌ (sym f.whole) f.sum)
 
   witnessed : Witnessed ps qs m
   witnessed = record {
@@ -119,16 +123,16 @@ module _ (ps qs : List Pt) (c : Carrier) (m : Measurement) (e : Ended ps qs c) (
     all = t.witnesses;
     corners = listed-corners ps qs (pairs c.simplex) (weights S) e.corners;
     weighty = listed-weighty (pairs c.simplex) (weights S) e.inside;
-    independent = subst (λ x. Independent x) (sym (listed-differences (pairs c.simplex) (weights S) one_each)) e.sound.independent;
-    mean = subst (λ ks. Same (reported m) (comb ks (differences used) ÷ totalℤ ks)) (sym (listed-weights (pairs c.simplex) (weights S) one_each)) (subst (λ ys. Same (reported m) (comb (weights S) ys ÷ totalℤ (weights S))) (sym (listed-differences (pairs c.simplex) (weights S) one_each)) (same-reduced (carried c) (reported m) t.fraction (comb (weights S) S ÷ totalℤ (weights S)) (positive e.sound) mean_is));
+    independent = subst (λ x. Independent x) (sym (listed-differences (pairs c.simplex) (weights S) one_each)) whole;
+    mean = subst (λ ks. Same (reported m) (comb ks (differences used) ÷ totalℤ ks)) (sym (listed-weights (pairs c.simplex) (weights S) one_each)) (subst (λ ys. Same (reported m) (comb (weights S) ys ÷ totalℤ (weights S))) (sym (listed-differences (pairs c.simplex) (weights S) one_each)) (same-reduced (carried c) (reported m) t.fraction (comb (weights S) S ÷ totalℤ (weights S)) (positive c) mean_is));
   }
 
   -- lowest terms are no larger than the foot and the extent
   small : Near 830000000 (at m.d) × (nat_abs m.w ≤ 120000000)
   small =
-      let near = near-foot e.sound in
+      let near = near-foot c in
       let (x, y, z, w) = reduced_small t.fraction in
-      ((omega (arith, x, near.0), omega (arith, y, near.1), omega (arith, z, near.2)), omega (arith, w, size_extent e.sound))
+      ((omega (arith, x, near.0), omega (arith, y, near.1), omega (arith, z, near.2)), omega (arith, w, size_extent c))
 
   pub reports : Reports ps qs m
   reports =
@@ -136,8 +140,8 @@ module _ (ps qs : List Pt) (c : Carrier) (m : Measurement) (e : Ended ps qs c) (
       record {
         nearest = n;
         lowest = t.fraction.coprime;
-        square = square-reduced t.ratio (reported m) (square-same (carried c) (reported m) t.gap c.extent (positive e.sound) (same_of_reduced (carried c) (reported m) t.fraction) t.square);
-        over = above (bottom_reduced t.ratio (positive e.sound));
+        square = square-reduced t.ratio (reported m) (square-same (carried c) (reported m) t.gap c.extent (positive c) (same_of_reduced (carried c) (reported m) t.fraction) t.square);
+        over = above (bottom_reduced t.ratio (positive c));
         reduced = t.ratio.coprime;
         d_small = small.0;
         w_small = small.1;

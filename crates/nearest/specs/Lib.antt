@@ -1,6 +1,9 @@
 pub mod Bodies
 pub mod Measurements
 pub mod Room
+pub mod Vectors
+pub mod Pairs
+pub mod Simplices
 pub mod Shapes
 pub mod Searches
 pub mod Reports

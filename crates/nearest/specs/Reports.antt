@@ -6,10 +6,11 @@ use Rattle.convex.specs.Simplices.{weights}
 use Rattle.convex.specs.Lowest.{terms}
 use Rattle.exact.specs.Terms.{parts}
 use Rattle.nearest.specs.declared.pair.Pair.{Pair}
-use Rattle.nearest.specs.declared.simplex.Carrier.{Carrier}
+use Rattle.nearest.specs.declared.carrier.Carrier.{Carrier}
 use Rattle.nearest.specs.declared.measurement.Witness.{Witness}
 use Rattle.nearest.specs.declared.measurement.Measurement.{Measurement}
-use Rattle.nearest.specs.Shapes.{pairs, points, carried}
+use Rattle.nearest.specs.Simplices.{pairs, points}
+use Rattle.nearest.specs.Shapes.{carried}
 use Rattle.nearest.specs.Measurements.{reported, blank}
 
 -- a pair with a weight

@@ -7,8 +7,9 @@ use Rattle.convex.specs.Hulls.{Farthest}
 use Rattle.convex.specs.Simplices.{weights}
 use Rattle.exact.specs.Spots.{spot}
 use Rattle.nearest.specs.declared.pair.Pair.{Pair}
-use Rattle.nearest.specs.declared.simplex.Carrier.{Carrier}
-use Rattle.nearest.specs.Shapes.{pairs, points, carried, Sound}
+use Rattle.nearest.specs.declared.carrier.Carrier.{Carrier}
+use Rattle.nearest.specs.Simplices.{pairs, points}
+use Rattle.nearest.specs.Shapes.{carried}
 
 -- a corner of the first body and one of the second
 pub record CornersOf (ps qs : List Pt) (v : Pair) : Type 0 where
@@ -22,7 +23,6 @@ pub record Probed (d : Pt) (ps qs : List Pt) (v : Pair) : Type 0 where
 
 -- c carries the nearest difference, by pairs of corners and positive weights
 pub record Ended (ps qs : List Pt) (c : Carrier) : Type 0 where
-  pub sound : Sound c
   pub nearest : Nearest ps qs (carried c)
   pub corners : AllByRecursion (CornersOf ps qs) (pairs c.simplex)
   pub inside : AllByRecursion (λ k. pos 0 <ℤ k) (weights (points c.simplex))

@@ -20,8 +20,7 @@ impl<'a> Corners<'a> {
     pub fn new(list: &'a [Corner]) -> Option<Corners<'a>>
         ensures { elim result [ None ↦ list.now ≡ [] | Some b ↦ b.list.now ≡ list.now ] }
     {
-        let empty = list.len() == 0;
-        if empty {
+        if list.is_empty() {
             return None;
         }
         Some(Corners { list })
@@ -32,12 +31,9 @@ impl<'a> Body for Corners<'a> {
     ghost corners = { λ b. Ok (map spot b.list.now) };
 
     fn farthest(&self, direction: Direction) -> Result<Corner, Refusal> {
-        match farthest(self.list, direction) {
-            Some(best) => {
-                let place = best.candidate;
-                Ok(self.list[place])
-            }
-            None => unreachable(),
-        }
+        let Some(best) = farthest(self.list, direction) else {
+            unreachable!()
+        };
+        Ok(self.list[best.candidate])
     }
 }

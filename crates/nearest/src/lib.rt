@@ -2,6 +2,7 @@
 #![tactic(auto)]
 
 pub mod body;
+mod carrier;
 pub mod corners;
 pub mod measure;
 pub mod measurement;
@@ -9,5 +10,6 @@ mod pair;
 mod rounds;
 mod simplex;
 mod solves;
+mod span;
 mod steps;
 mod vectors;

@@ -1,23 +1,23 @@
 // The measurement: the nearest difference of two bodies and the square of its length, in lowest terms, with its witnesses.
 ghost use Rattle.std.specs.Prelude.{◌≡◌};
 ghost use Rattle.convex.specs.Simplices.{weights as weights_of};
-ghost use Rattle.nearest.specs.Shapes.{pairs, points, Sound};
+ghost use Rattle.nearest.specs.Simplices.{pairs, points};
 ghost use Rattle.nearest.specs.Measurements.{blank as blank_of, Measured};
-ghost use Rattle.nearest.specs.Reports.{weighed, listed, padded, Told};
+ghost use Rattle.nearest.specs.Reports.{listed, padded, Told};
 
 use crate::body::Body;
+use crate::carrier::Carrier;
 use crate::measurement::{Measurement, Witness};
-use crate::pair::Pair;
-use crate::rounds::nearest;
-use crate::simplex::{Carrier, Simplex};
-use crate::solves::{weights2, weights3, weights4};
+use crate::rounds::Bodies;
+use crate::simplex::Simplex;
+use crate::span::Span;
 use crate::steps::gap;
 use exact::corner::Corner;
 use exact::fraction::Fraction;
 use exact::gap::Gap;
 use refusals::Refusal;
 
-// No witness: both corners at the origin, and the weight 0.
+// No witness: both corners at the origin, and the weight 0. As a constant its corners would be proved to be near anew at each use.
 fn blank() -> Witness
     ensures { result ≡ blank_of }
 {
@@ -28,42 +28,35 @@ fn blank() -> Witness
     }
 }
 
-// The pair with a weight.
-fn witness(pair: Pair, weight: i64) -> Witness
-    ensures { result ≡ weighed pair weight }
-{
-    Witness {
-        first: pair.first,
-        second: pair.second,
-        weight,
-    }
-}
-
 // The pairs of a simplex with their weights, and blank ones after them.
 fn witnesses(s: Simplex) -> [Witness; 4]
     ensures { result ≡ padded (listed (pairs s) (weights_of (points s))) }
 {
     let none = blank();
     match s {
-        Simplex::One(a) => [witness(a, 1), none, none, none],
-        Simplex::Two(a, b) => {
-            let (k, l) = weights2(a, b);
-            [witness(a, k), witness(b, l), none, none]
+        Simplex::One(a) => [a.weighed(1), none, none, none],
+        Simplex::Two(s) => {
+            let [k, l]: [i64; 2] = s.weights();
+            [s.a.weighed(k), s.b.weighed(l), none, none]
         }
-        Simplex::Three(a, b, c) => {
-            let (k, l, m) = weights3(a, b, c);
-            [witness(a, k), witness(b, l), witness(c, m), none]
+        Simplex::Three(s) => {
+            let [k, l, m]: [i64; 3] = s.weights();
+            [s.a.weighed(k), s.b.weighed(l), s.c.weighed(m), none]
         }
-        Simplex::Four(a, b, c, d) => {
-            let (k, l, m, n) = weights4(a, b, c, d);
-            [witness(a, k), witness(b, l), witness(c, m), witness(d, n)]
+        Simplex::Four(s) => {
+            let [k, l, m, n]: [i64; 4] = s.weights();
+            [
+                s.a.weighed(k),
+                s.b.weighed(l),
+                s.c.weighed(m),
+                s.d.weighed(n),
+            ]
         }
     }
 }
 
 // What is reported of the simplex at which the search ended.
 fn report(found: Carrier) -> Measurement
-    requires { Sound found }
     ensures { Told found result }
 {
     let square = gap(found);
@@ -73,17 +66,15 @@ fn report(found: Carrier) -> Measurement
     }
     .lowest();
     let fraction = Fraction {
-        point: found.foot,
+        point: found.foot.end(),
         over: found.extent,
     }
     .lowest();
-    let (d, w) = (fraction.point, fraction.over);
-    let witnesses = witnesses(found.simplex);
     Measurement {
-        d,
-        w,
+        d: fraction.point,
+        w: fraction.over,
         gap: ratio,
-        witnesses,
+        witnesses: witnesses(found.simplex),
     }
 }
 
@@ -91,6 +82,6 @@ fn report(found: Carrier) -> Measurement
 pub fn measure<F: Body, G: Body>(first: &F, second: &G) -> Result<Measurement, Refusal>
     ensures { Measured (F.Body.corners first.now) (G.Body.corners second.now) result }
 {
-    let found = nearest(first, second)?;
+    let found = Bodies { first, second }.nearest()?;
     Ok(report(found))
 }

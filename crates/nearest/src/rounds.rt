@@ -1,67 +1,52 @@
 // The search for the nearest difference: from one pair of corners, round by round, each time with the pair that lies farthest on the near side.
-ghost use Rattle.std.specs.Prelude.{◌≡◌, true, false, ◌*ℤ◌, ◌≤ℤ◌, ◌<ℤ◌};
-ghost use Rattle.integers.specs.Points.{dot as dotted, origin};
-ghost use Rattle.exact.specs.Space.{at, Within};
+ghost use Rattle.integers.specs.Space.{Near};
+ghost use Rattle.nearest.specs.Vectors.{to};
 ghost use Rattle.nearest.specs.Bodies.{OfBoth};
-ghost use Rattle.nearest.specs.Shapes.{between, Sound};
 ghost use Rattle.nearest.specs.Searches.{Probed, Ended};
 
 use crate::body::Body;
+use crate::carrier::Carrier;
 use crate::pair::Pair;
-use crate::simplex::Carrier;
-use crate::solves::difference;
-use crate::steps::{grow, vertex};
-use crate::vectors::{dot, opposite};
+use crate::span::Span;
+use crate::steps::grown;
+use crate::vectors::Vector;
 use exact::direction::Direction;
-use exact::point::Point;
 use refusals::Refusal;
 
-// Whether a point is the origin.
-fn is_origin(p: Point) -> bool
-    ensures { result ≡ true → at p ≡ origin }
-{
-    p.x == 0 && p.y == 0 && p.z == 0
+// The two bodies between which the nearest difference is sought.
+#[derive_where(Clone, Copy)]
+pub(crate) struct Bodies<'a, F, G> {
+    pub(crate) first: &'a F,
+    pub(crate) second: &'a G,
 }
 
-// The pair whose difference lies farthest against d.
-fn probe<F: Body, G: Body>(first: &F, second: &G, d: Point) -> Result<Pair, Refusal>
-    requires { Within 1000000000 d }
-    ensures { OfBoth (Probed (at d)) (F.Body.corners first.now) (G.Body.corners second.now) result }
-{
-    let back = opposite(d);
-    let a = first.farthest(Direction { along: back })?;
-    let b = second.farthest(Direction { along: d })?;
-    Ok(Pair {
-        first: a,
-        second: b,
-    })
-}
-
-// Whether the difference of w lies on the near side of the carried point.
-fn nearer(c: Carrier, w: Pair) -> bool
-    requires { Sound c }
-    ensures yes { result ≡ true → (c.extent *ℤ dotted (at c.foot) (between w)) <ℤ dotted (at c.foot) (at c.foot) }
-    ensures no { result ≡ false → dotted (at c.foot) (at c.foot) ≤ℤ (c.extent *ℤ dotted (at c.foot) (between w)) }
-{
-    let p = difference(w);
-    let k = dot(c.foot, p);
-    let s = dot(c.foot, c.foot);
-    c.extent * k < s
-}
-
-// The simplex that carries the nearest difference.
-pub(crate) fn nearest<F: Body, G: Body>(first: &F, second: &G) -> Result<Carrier, Refusal>
-    ensures { OfBoth Ended (F.Body.corners first.now) (G.Body.corners second.now) result }
-{
-    let from = probe(first, second, Point { x: -1, y: 0, z: 0 })?;
-    let mut near = vertex(from);
-    while !is_origin(near.foot) {
-        let w = probe(first, second, near.foot)?;
-        let onward = nearer(near, w);
-        if !onward {
-            return Ok(near);
-        }
-        near = grow(near, w);
+impl<F: Body, G: Body> Bodies<'_, F, G> {
+    // The pair whose difference lies farthest against d.
+    fn probe(&self, d: Vector) -> Result<Pair, Refusal>
+        requires { Near 1000000000 (to d) }
+        ensures { OfBoth (Probed (to d)) (F.Body.corners self.now.first.now) (G.Body.corners self.now.second.now) result }
+    {
+        let back = Direction { along: (-d).end() };
+        let onward = Direction { along: d.end() };
+        Ok(Pair {
+            first: self.first.farthest(back)?,
+            second: self.second.farthest(onward)?,
+        })
     }
-    Ok(near)
+
+    // The simplex that carries the nearest difference.
+    pub(crate) fn nearest(&self) -> Result<Carrier, Refusal>
+        ensures { OfBoth Ended (F.Body.corners self.now.first.now) (G.Body.corners self.now.second.now) result }
+    {
+        let from = self.probe(Vector { x: -1, y: 0, z: 0 })?;
+        let mut near = from.nearest();
+        while near.foot != Vector::ZERO {
+            let w = self.probe(near.foot)?;
+            let Some(next) = grown(near, w) else {
+                return Ok(near);
+            };
+            near = next;
+        }
+        Ok(near)
+    }
 }

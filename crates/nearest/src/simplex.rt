@@ -1,20 +1,42 @@
-// One to four pairs of corners, and the point of their hull that is nearest to the origin.
-use crate::pair::Pair;
-use exact::point::Point;
+// The simplices of a search: one to four pairs of corners whose differences are affinely independent.
+ghost use Rattle.std.specs.Prelude.{[], ◌∷◌};
+ghost use Rattle.convex.specs.Simplices.{Independent};
+ghost use Rattle.nearest.specs.Pairs.{betweens};
 
-// The pairs, which stand for their differences.
+use crate::pair::Pair;
+
+// Two pairs with different differences.
+#[derive(Clone, Copy)]
+pub(crate) struct Edge {
+    pub(crate) a: Pair,
+    pub(crate) b: Pair,
+    ghost independent: { Independent (betweens (a ∷ b ∷ [])) },
+}
+
+// Three pairs whose differences lie on no line.
+#[derive(Clone, Copy)]
+pub(crate) struct Triangle {
+    pub(crate) a: Pair,
+    pub(crate) b: Pair,
+    pub(crate) c: Pair,
+    ghost independent: { Independent (betweens (a ∷ b ∷ c ∷ [])) },
+}
+
+// Four pairs whose differences lie in no plane.
+#[derive(Clone, Copy)]
+pub(crate) struct Solid {
+    pub(crate) a: Pair,
+    pub(crate) b: Pair,
+    pub(crate) c: Pair,
+    pub(crate) d: Pair,
+    ghost independent: { Independent (betweens (a ∷ b ∷ c ∷ d ∷ [])) },
+}
+
+// Any of them; a single pair needs no condition.
 #[derive(Clone, Copy)]
 pub(crate) enum Simplex {
     One(Pair),
-    Two(Pair, Pair),
-    Three(Pair, Pair, Pair),
-    Four(Pair, Pair, Pair, Pair),
-}
-
-// A simplex with the point foot / extent of its hull that is nearest to the origin.
-#[derive(Clone, Copy)]
-pub(crate) struct Carrier {
-    pub(crate) simplex: Simplex,
-    pub(crate) foot: Point,
-    pub(crate) extent: i64,
+    Two(Edge),
+    Three(Triangle),
+    Four(Solid),
 }

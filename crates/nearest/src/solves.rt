@@ -1,156 +1,188 @@
 // The foot of the perpendicular from the origin to the line, plane or space through two to four corner differences: weights, sum and total.
-ghost use Rattle.std.specs.Prelude.{◌≡◌, List, [], ◌∷◌, ℤ};
-ghost use Rattle.integers.specs.Points.{◌-ᵛ◌, det};
-ghost use Rattle.convex.specs.Simplices.{normal as normal_of, volume as volume_of, weights as weights_of, foot as foot_of, extent as extent_of};
-ghost use Rattle.exact.specs.Space.{at};
-ghost use Rattle.nearest.specs.Shapes.{between, betweens};
+ghost use Rattle.std.specs.Prelude.{◌≡◌, [], ◌∷◌};
+ghost use Rattle.integers.specs.Points.{det};
+ghost use Rattle.convex.specs.Simplices.{normal as normal_of, volume as volume_of};
+ghost use Rattle.nearest.specs.Vectors.{to};
+ghost use Rattle.nearest.specs.Pairs.{between};
 
+use crate::carrier::Carrier;
 use crate::pair::Pair;
-use crate::vectors::{cross, dot, minus, plus, scaled};
-use exact::point::Point;
-
-// The difference of the two corners.
-pub(crate) fn difference(a: Pair) -> Point
-    ensures { at result ≡ between a }
-{
-    let p = Point::from(a.first);
-    let q = Point::from(a.second);
-    minus(p, q)
-}
-
-// The edge from a to b.
-fn along(a: Pair, b: Pair) -> Point
-    ensures { at result ≡ between b -ᵛ between a }
-{
-    let p = difference(a);
-    let q = difference(b);
-    minus(q, p)
-}
-
-// The weights of the foot on a line.
-pub(crate) fn weights2(a: Pair, b: Pair) -> (i64, i64)
-    ensures { weights_of (betweens (a ∷ b ∷ [])) ≡ result.0 ∷ result.1 ∷ [] }
-{
-    let p = difference(a);
-    let q = difference(b);
-    let e = along(a, b);
-    let k = dot(q, e);
-    let l = dot(p, e);
-    (k, -l)
-}
-
-// The sum of the two by these weights.
-pub(crate) fn foot2(a: Pair, b: Pair) -> Point
-    ensures { at result ≡ foot_of (betweens (a ∷ b ∷ [])) }
-{
-    let p = difference(a);
-    let q = difference(b);
-    let e = along(a, b);
-    let k = dot(q, e);
-    let l = dot(p, e);
-    let left = scaled(k, p);
-    let right = scaled(l, q);
-    minus(left, right)
-}
-
-// The total of these weights: the square of the edge.
-pub(crate) fn extent2(a: Pair, b: Pair) -> i64
-    ensures { result ≡ extent_of (betweens (a ∷ b ∷ [])) }
-{
-    let e = along(a, b);
-    dot(e, e)
-}
+use crate::simplex::{Edge, Simplex, Solid, Triangle};
+use crate::span::{Span, or_face};
+use crate::vectors::Vector;
 
 // The normal of a triangle: twice its area long.
-fn normal(a: Pair, b: Pair, c: Pair) -> Point
-    ensures { at result ≡ normal_of (between a) (between b) (between c) }
+fn normal(a: Pair, b: Pair, c: Pair) -> Vector
+    ensures { to result ≡ normal_of (between a) (between b) (between c) }
 {
-    let p = difference(a);
-    let q = difference(b);
-    let r = difference(c);
-    let pq = cross(p, q);
-    let qr = cross(q, r);
-    let rp = cross(r, p);
-    let s = plus(pq, qr);
-    plus(s, rp)
+    let p = a.difference();
+    let q = b.difference();
+    let r = c.difference();
+    p.cross(q) + q.cross(r) + r.cross(p)
 }
 
 // Six times the volume of the solid that three differences span with the origin, with a sign.
 fn determinant(a: Pair, b: Pair, c: Pair) -> i64
     ensures { result ≡ det (between a) (between b) (between c) }
 {
-    let p = difference(a);
-    let q = difference(b);
-    let r = difference(c);
-    let qr = cross(q, r);
-    dot(p, qr)
-}
-
-// The weights of the foot on a plane.
-pub(crate) fn weights3(a: Pair, b: Pair, c: Pair) -> (i64, i64, i64)
-    ensures { weights_of (betweens (a ∷ b ∷ c ∷ [])) ≡ result.0 ∷ result.1 ∷ result.2 ∷ [] }
-{
-    let n = normal(a, b, c);
-    let p = difference(a);
-    let q = difference(b);
-    let r = difference(c);
-    let qr = cross(q, r);
-    let rp = cross(r, p);
-    let pq = cross(p, q);
-    let k = dot(n, qr);
-    let l = dot(n, rp);
-    let m = dot(n, pq);
-    (k, l, m)
-}
-
-// The sum of the three by these weights.
-pub(crate) fn foot3(a: Pair, b: Pair, c: Pair) -> Point
-    ensures { at result ≡ foot_of (betweens (a ∷ b ∷ c ∷ [])) }
-{
-    let n = normal(a, b, c);
-    let d = determinant(a, b, c);
-    scaled(d, n)
-}
-
-// The total of these weights: the square of the normal.
-pub(crate) fn extent3(a: Pair, b: Pair, c: Pair) -> i64
-    ensures { result ≡ extent_of (betweens (a ∷ b ∷ c ∷ [])) }
-{
-    let n = normal(a, b, c);
-    dot(n, n)
-}
-
-// The weights of the origin in a solid.
-pub(crate) fn weights4(a: Pair, b: Pair, c: Pair, d: Pair) -> (i64, i64, i64, i64)
-    ensures { weights_of (betweens (a ∷ b ∷ c ∷ d ∷ [])) ≡ result.0 ∷ result.1 ∷ result.2 ∷ result.3 ∷ [] }
-{
-    let k = determinant(b, c, d);
-    let l = determinant(a, c, d);
-    let m = determinant(a, b, d);
-    let n = determinant(a, b, c);
-    let v = k - l + m - n;
-    if v < 0 {
-        (-k, l, -m, n)
-    } else {
-        (k, -l, m, -n)
-    }
+    let p = a.difference();
+    let q = b.difference();
+    let r = c.difference();
+    p.dot(q.cross(r))
 }
 
 // Six times the volume of a solid, with a sign; zero where the four lie in one plane.
 fn volume(a: Pair, b: Pair, c: Pair, d: Pair) -> i64
     ensures { result ≡ volume_of (between a) (between b) (between c) (between d) }
 {
-    let n = normal(a, b, c);
-    let s = difference(d);
-    let k = dot(n, s);
-    let l = determinant(a, b, c);
-    k - l
+    normal(a, b, c).dot(d.difference()) - determinant(a, b, c)
 }
 
-// The total of the weights of the origin: the size of the volume.
-pub(crate) fn extent4(a: Pair, b: Pair, c: Pair, d: Pair) -> i64
-    ensures { result ≡ extent_of (betweens (a ∷ b ∷ c ∷ d ∷ [])) }
-{
-    let v = volume(a, b, c, d);
-    if v < 0 { -v } else { v }
+// A single pair is its own foot.
+impl Span<1> for Pair {
+    ghost pairs = { λ a. a ∷ [] };
+
+    fn weights(self) -> [i64; 1] {
+        [1]
+    }
+
+    fn foot(self) -> Vector {
+        self.difference()
+    }
+
+    fn extent(self) -> i64 {
+        1
+    }
+
+    fn simplex(self) -> Simplex {
+        Simplex::One(self)
+    }
+
+    #[inline(always)]
+    fn by_faces(self) -> Option<Carrier> {
+        None
+    }
+}
+
+// The foot on a line.
+impl Span<2> for Edge {
+    ghost pairs = { λ s. s.a ∷ s.b ∷ [] };
+
+    fn weights(self) -> [i64; 2] {
+        let p = self.a.difference();
+        let q = self.b.difference();
+        let e = q - p;
+        [q.dot(e), -p.dot(e)]
+    }
+
+    fn foot(self) -> Vector {
+        let p = self.a.difference();
+        let q = self.b.difference();
+        let e = q - p;
+        q.dot(e) * p - p.dot(e) * q
+    }
+
+    // The square of the edge.
+    fn extent(self) -> i64 {
+        let e = self.b.difference() - self.a.difference();
+        e.dot(e)
+    }
+
+    fn simplex(self) -> Simplex {
+        Simplex::Two(self)
+    }
+
+    // Its ends.
+    #[inline(always)]
+    fn by_faces(self) -> Option<Carrier> {
+        let Edge { a, b } = self;
+        let [k, l]: [i64; 2] = self.weights();
+        let mut best = None;
+        or_face(&mut best, k, b);
+        or_face(&mut best, l, a);
+        best
+    }
+}
+
+// The foot on a plane.
+impl Span<3> for Triangle {
+    ghost pairs = { λ s. s.a ∷ s.b ∷ s.c ∷ [] };
+
+    fn weights(self) -> [i64; 3] {
+        let n = normal(self.a, self.b, self.c);
+        let p = self.a.difference();
+        let q = self.b.difference();
+        let r = self.c.difference();
+        [n.dot(q.cross(r)), n.dot(r.cross(p)), n.dot(p.cross(q))]
+    }
+
+    fn foot(self) -> Vector {
+        determinant(self.a, self.b, self.c) * normal(self.a, self.b, self.c)
+    }
+
+    // The square of the normal.
+    fn extent(self) -> i64 {
+        let n = normal(self.a, self.b, self.c);
+        n.dot(n)
+    }
+
+    fn simplex(self) -> Simplex {
+        Simplex::Three(self)
+    }
+
+    #[inline(always)]
+    fn by_faces(self) -> Option<Carrier> {
+        let Triangle { a, b, c } = self;
+        let [k, l, m]: [i64; 3] = self.weights();
+        let mut best = None;
+        or_face(&mut best, k, Edge { a: b, b: c });
+        or_face(&mut best, l, Edge { a, b: c });
+        or_face(&mut best, m, Edge { a, b });
+        best
+    }
+}
+
+// The foot in the whole space is the origin.
+impl Span<4> for Solid {
+    ghost pairs = { λ s. s.a ∷ s.b ∷ s.c ∷ s.d ∷ [] };
+
+    fn weights(self) -> [i64; 4] {
+        let Solid { a, b, c, d } = self;
+        let k = determinant(b, c, d);
+        let l = determinant(a, c, d);
+        let m = determinant(a, b, d);
+        let n = determinant(a, b, c);
+        let v = k - l + m - n;
+        if v < 0 {
+            [-k, l, -m, n]
+        } else {
+            [k, -l, m, -n]
+        }
+    }
+
+    fn foot(self) -> Vector {
+        Vector::ZERO
+    }
+
+    // The size of the volume.
+    fn extent(self) -> i64 {
+        let v = volume(self.a, self.b, self.c, self.d);
+        if v < 0 { -v } else { v }
+    }
+
+    fn simplex(self) -> Simplex {
+        Simplex::Four(self)
+    }
+
+    #[inline(always)]
+    fn by_faces(self) -> Option<Carrier> {
+        let Solid { a, b, c, d } = self;
+        let [k, l, m, n]: [i64; 4] = self.weights();
+        let mut best = None;
+        or_face(&mut best, k, Triangle { a: b, b: c, c: d });
+        or_face(&mut best, l, Triangle { a, b: c, c: d });
+        or_face(&mut best, m, Triangle { a, b, c: d });
+        or_face(&mut best, n, Triangle { a, b, c });
+        best
+    }
 }

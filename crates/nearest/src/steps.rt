@@ -1,198 +1,79 @@
-// The nearest point of a simplex: its foot where all weights are positive, and else the best of its faces across a weight that is not.
-ghost use Rattle.std.specs.Prelude.{◌≤◌, List, [], ◌∷◌, ◌++◌, length, pos, ◌≤ℤ◌, unsigned_abs};
+// What the search does with a carrier: measure it, compare it, and let it grow by a pair.
+ghost use Rattle.std.specs.Prelude.{◌≡◌, true, false, ◌≤◌, pos, ◌*ℤ◌, ◌≤ℤ◌, ◌<ℤ◌, unsigned_abs};
 ghost use Rattle.std.specs.List.{ContainsAt as Has};
+ghost use Rattle.integers.specs.Points.{dot as dotted};
 ghost use Rattle.convex.specs.Fractions.{SquareOf};
-ghost use Rattle.convex.specs.Simplices.{Independent};
-ghost use Rattle.exact.specs.Space.{at};
-ghost use Rattle.nearest.specs.Shapes.{betweens, pairs, points, carried, Sound, Carried, Lesser, Chosen};
+ghost use Rattle.nearest.specs.Vectors.{to};
+ghost use Rattle.nearest.specs.Pairs.{between};
+ghost use Rattle.nearest.specs.Simplices.{points};
+ghost use Rattle.nearest.specs.Shapes.{carried, Lesser, Grown};
 
+use crate::carrier::Carrier;
 use crate::pair::Pair;
-use crate::simplex::{Carrier, Simplex};
-use crate::solves::{
-    difference, extent2, extent3, extent4, foot2, foot3, weights2, weights3, weights4,
-};
-use crate::vectors::dot;
-use exact::point::Point;
-
-// One corner.
-pub(crate) fn vertex(a: Pair) -> Carrier
-    ensures { Carried (a ∷ []) result }
-{
-    let foot = difference(a);
-    Carrier {
-        simplex: Simplex::One(a),
-        foot,
-        extent: 1,
-    }
-}
-
-// The nearest point of an edge: one of its ends where the foot lies beyond it.
-fn edge(a: Pair, b: Pair) -> Carrier
-    requires { Independent (betweens (a ∷ b ∷ [])) }
-    ensures { Carried (a ∷ b ∷ []) result }
-{
-    let (k, l) = weights2(a, b);
-    let beyond_b = k <= 0;
-    if beyond_b {
-        return vertex(b);
-    }
-    let beyond_a = l <= 0;
-    if beyond_a {
-        return vertex(a);
-    }
-    let foot = foot2(a, b);
-    let extent = extent2(a, b);
-    Carrier {
-        simplex: Simplex::Two(a, b),
-        foot,
-        extent,
-    }
-}
+use crate::simplex::{Edge, Simplex, Solid, Triangle};
+use crate::span::Span;
+use crate::vectors::Vector;
 
 // A corner of the simplex.
-fn corner(s: Simplex) -> Point
-    ensures { Has (points s) (at result) }
+fn corner(s: Simplex) -> Vector
+    ensures { Has (points s) (to result) }
 {
     match s {
-        Simplex::One(a) => difference(a),
-        Simplex::Two(a, _) => difference(a),
-        Simplex::Three(a, _, _) => difference(a),
-        Simplex::Four(a, _, _, _) => difference(a),
+        Simplex::One(a) => a.difference(),
+        Simplex::Two(s) => s.a.difference(),
+        Simplex::Three(s) => s.a.difference(),
+        Simplex::Four(s) => s.a.difference(),
     }
 }
 
 // The square of the carried point is this over the extent: the product of the foot and any corner of the simplex.
 pub(crate) fn gap(c: Carrier) -> i64
-    requires { Sound c }
     ensures square { SquareOf (carried c) result c.extent }
     ensures low { pos 0 ≤ℤ result }
     ensures high { unsigned_abs result ≤ 17348050944 }
 {
-    let p = corner(c.simplex);
-    dot(c.foot, p)
+    c.foot.dot(corner(c.simplex))
 }
 
 // The shorter of two carried points, and the first where they are equally long.
-fn shorter(c: Carrier, d: Carrier) -> Carrier
-    requires { (Sound c) × (Sound d) }
+pub(crate) fn shorter(c: Carrier, d: Carrier) -> Carrier
     ensures { Lesser c d result }
 {
     let k = gap(c);
     let l = gap(d);
-    let second = l * c.extent < k * d.extent;
-    if second {
-        return d;
-    }
-    c
+    if l * c.extent < k * d.extent { d } else { c }
 }
 
-// The best so far, or the nearest point of one more edge where its weight is not positive and it is shorter.
-fn or_edge(best: Carrier, weight: i64, a: Pair, b: Pair) -> Carrier
-    requires { (Sound best) × (Independent (betweens (a ∷ b ∷ []))) }
-    ensures { Chosen weight (a ∷ b ∷ []) best result }
+// Whether the difference of w lies on the near side of the carried point.
+fn nearer(c: Carrier, w: Pair) -> bool
+    ensures yes { result ≡ true → (c.extent *ℤ dotted (to c.foot) (between w)) <ℤ dotted (to c.foot) (to c.foot) }
+    ensures no { result ≡ false → dotted (to c.foot) (to c.foot) ≤ℤ (c.extent *ℤ dotted (to c.foot) (between w)) }
 {
-    if weight > 0 {
-        return best;
-    }
-    let next = edge(a, b);
-    shorter(best, next)
+    c.extent * c.foot.dot(w.difference()) < c.foot.dot(c.foot)
 }
 
-// The nearest point of a triangle.
-fn triangle(a: Pair, b: Pair, c: Pair) -> Carrier
-    requires { Independent (betweens (a ∷ b ∷ c ∷ [])) }
-    ensures { Carried (a ∷ b ∷ c ∷ []) result }
+// The nearest point of the simplex with one more pair, or nothing where the difference of the pair is not on the near side.
+pub(crate) fn grown(c: Carrier, w: Pair) -> Option<Carrier>
+    ensures { Grown c w result }
 {
-    let (k, l, m) = weights3(a, b, c);
-    if k <= 0 {
-        if l > 0 && m > 0 {
-            return edge(b, c);
+    if !nearer(c, w) {
+        return None;
+    }
+    Some(match c.simplex {
+        Simplex::One(a) => Edge { a, b: w }.nearest(),
+        Simplex::Two(s) => Triangle {
+            a: s.a,
+            b: s.b,
+            c: w,
         }
-        let x1 = edge(b, c);
-        let x2 = or_edge(x1, l, a, c);
-        return or_edge(x2, m, a, b);
-    }
-    if l <= 0 {
-        if m > 0 {
-            return edge(a, c);
+        .nearest(),
+        Simplex::Three(s) => Solid {
+            a: s.a,
+            b: s.b,
+            c: s.c,
+            d: w,
         }
-        let y1 = edge(a, c);
-        return or_edge(y1, m, a, b);
-    }
-    if m <= 0 {
-        return edge(a, b);
-    }
-    let foot = foot3(a, b, c);
-    let extent = extent3(a, b, c);
-    Carrier {
-        simplex: Simplex::Three(a, b, c),
-        foot,
-        extent,
-    }
-}
-
-// The best so far, or the nearest point of one more triangle where its weight is not positive and it is shorter.
-fn or_triangle(best: Carrier, weight: i64, a: Pair, b: Pair, c: Pair) -> Carrier
-    requires { (Sound best) × (Independent (betweens (a ∷ b ∷ c ∷ []))) }
-    ensures { Chosen weight (a ∷ b ∷ c ∷ []) best result }
-{
-    if weight > 0 {
-        return best;
-    }
-    let next = triangle(a, b, c);
-    shorter(best, next)
-}
-
-// The nearest point of a solid: the origin where it lies inside.
-fn tetrahedron(a: Pair, b: Pair, c: Pair, d: Pair) -> Carrier
-    requires { Independent (betweens (a ∷ b ∷ c ∷ d ∷ [])) }
-    ensures { Carried (a ∷ b ∷ c ∷ d ∷ []) result }
-{
-    let (k, l, m, n) = weights4(a, b, c, d);
-    if k <= 0 {
-        if l > 0 && m > 0 && n > 0 {
-            return triangle(b, c, d);
-        }
-        let x1 = triangle(b, c, d);
-        let x2 = or_triangle(x1, l, a, c, d);
-        let x3 = or_triangle(x2, m, a, b, d);
-        return or_triangle(x3, n, a, b, c);
-    }
-    if l <= 0 {
-        if m > 0 && n > 0 {
-            return triangle(a, c, d);
-        }
-        let y1 = triangle(a, c, d);
-        let y2 = or_triangle(y1, m, a, b, d);
-        return or_triangle(y2, n, a, b, c);
-    }
-    if m <= 0 {
-        if n > 0 {
-            return triangle(a, b, d);
-        }
-        let z1 = triangle(a, b, d);
-        return or_triangle(z1, n, a, b, c);
-    }
-    if n <= 0 {
-        return triangle(a, b, c);
-    }
-    let extent = extent4(a, b, c, d);
-    Carrier {
-        simplex: Simplex::Four(a, b, c, d),
-        foot: Point { x: 0, y: 0, z: 0 },
-        extent,
-    }
-}
-
-// The nearest point of a simplex of at most three pairs with one more.
-pub(crate) fn grow(s: Carrier, w: Pair) -> Carrier
-    requires { (length (pairs s.simplex) ≤ 3) × (Independent (betweens (pairs s.simplex ++ w ∷ []))) }
-    ensures { Carried (pairs s.simplex ++ w ∷ []) result }
-{
-    match s.simplex {
-        Simplex::One(a) => edge(a, w),
-        Simplex::Two(a, b) => triangle(a, b, w),
-        Simplex::Three(a, b, c) => tetrahedron(a, b, c, w),
-        Simplex::Four(_, _, _, _) => unreachable(),
-    }
+        .nearest(),
+        Simplex::Four(_) => unreachable!(),
+    })
 }

@@ -1,75 +1,129 @@
-// Sums and products of points, within bounds that keep them in 64 bits.
+// Vectors of ℤ³ in 64 bits: each operation says within which bounds it may be used.
 ghost use Rattle.std.specs.Prelude.{◌≡◌, ◌^◌};
 ghost use Rattle.integers.specs.Points.{◌+ᵛ◌, ◌-ᵛ◌, ◌·ᵛ◌, dot as dotted, cross as crossed, origin};
-ghost use Rattle.exact.specs.Space.{at, Within};
+ghost use Rattle.integers.specs.Space.{Near};
+ghost use Rattle.exact.specs.Space.{at};
 ghost use Rattle.nearest.specs.Room.{Room, Scale};
+ghost use Rattle.nearest.specs.Vectors.{to};
 
 use exact::point::Point;
+use std::ops::{Add, Mul, Neg, Sub};
 
-// a less b.
-pub(crate) fn minus(a: Point, b: Point) -> Point
-    requires { (Within (2 ^ 60) a) × (Within (2 ^ 60) b) }
-    ensures { at result ≡ at a -ᵛ at b }
-{
-    Point {
-        x: a.x - b.x,
-        y: a.y - b.y,
-        z: a.z - b.z,
+// The way from the origin to a point.
+#[derive(Clone, Copy, PartialEq, Eq)]
+pub(crate) struct Vector {
+    pub(crate) x: i64,
+    pub(crate) y: i64,
+    pub(crate) z: i64,
+}
+
+impl Vector {
+    // From the origin to itself.
+    pub(crate) const ZERO: Vector = Vector { x: 0, y: 0, z: 0 };
+
+    // To a point.
+    pub(crate) fn new(p: Point) -> Vector
+        ensures { to result ≡ at p }
+    {
+        Vector {
+            x: p.x,
+            y: p.y,
+            z: p.z,
+        }
+    }
+
+    // The point that it leads to.
+    pub(crate) fn end(self) -> Point
+        ensures { at result ≡ to self }
+    {
+        Point {
+            x: self.x,
+            y: self.y,
+            z: self.z,
+        }
+    }
+
+    // The three products of like coordinates, added.
+    pub(crate) fn dot(self, other: Vector) -> i64
+        requires { Room (to self) (to other) }
+        ensures { result ≡ dotted (to self) (to other) }
+    {
+        self.x * other.x + self.y * other.y + self.z * other.z
+    }
+
+    // The cross product, which stands on both.
+    pub(crate) fn cross(self, other: Vector) -> Vector
+        requires { Room (to self) (to other) }
+        ensures { to result ≡ crossed (to self) (to other) }
+    {
+        Vector {
+            x: self.y * other.z - self.z * other.y,
+            y: self.z * other.x - self.x * other.z,
+            z: self.x * other.y - self.y * other.x,
+        }
     }
 }
 
-// a and b added.
-pub(crate) fn plus(a: Point, b: Point) -> Point
-    requires { (Within (2 ^ 60) a) × (Within (2 ^ 60) b) }
-    ensures { at result ≡ at a +ᵛ at b }
-{
-    Point {
-        x: a.x + b.x,
-        y: a.y + b.y,
-        z: a.z + b.z,
+impl Add for Vector {
+    type Output = Vector;
+
+    ghost can_add = { λ a b. Near (2 ^ 60) (to a) × Near (2 ^ 60) (to b) };
+
+    ghost add_gives = { λ a b r. to r ≡ to a +ᵛ to b };
+
+    fn add(self, rhs: Vector) -> Vector {
+        Vector {
+            x: self.x + rhs.x,
+            y: self.y + rhs.y,
+            z: self.z + rhs.z,
+        }
     }
 }
 
-// The point opposite, across the origin.
-pub(crate) fn opposite(a: Point) -> Point
-    requires { Within (2 ^ 60) a }
-    ensures { at result ≡ origin -ᵛ at a }
-{
-    Point {
-        x: -a.x,
-        y: -a.y,
-        z: -a.z,
+impl Sub for Vector {
+    type Output = Vector;
+
+    ghost can_sub = { λ a b. Near (2 ^ 60) (to a) × Near (2 ^ 60) (to b) };
+
+    ghost sub_gives = { λ a b r. to r ≡ to a -ᵛ to b };
+
+    fn sub(self, rhs: Vector) -> Vector {
+        Vector {
+            x: self.x - rhs.x,
+            y: self.y - rhs.y,
+            z: self.z - rhs.z,
+        }
     }
 }
 
-// k times a.
-pub(crate) fn scaled(k: i64, a: Point) -> Point
-    requires { Scale k (at a) }
-    ensures { at result ≡ k ·ᵛ at a }
-{
-    Point {
-        x: k * a.x,
-        y: k * a.y,
-        z: k * a.z,
+impl Neg for Vector {
+    type Output = Vector;
+
+    ghost can_neg = { λ a. Near (2 ^ 60) (to a) };
+
+    ghost neg_gives = { λ a r. to r ≡ origin -ᵛ to a };
+
+    fn neg(self) -> Vector {
+        Vector {
+            x: -self.x,
+            y: -self.y,
+            z: -self.z,
+        }
     }
 }
 
-// The product of two points: the three products of like coordinates, added.
-pub(crate) fn dot(a: Point, b: Point) -> i64
-    requires { Room (at a) (at b) }
-    ensures { result ≡ dotted (at a) (at b) }
-{
-    a.x * b.x + a.y * b.y + a.z * b.z
-}
+impl Mul<Vector> for i64 {
+    type Output = Vector;
 
-// The cross product: across both a and b.
-pub(crate) fn cross(a: Point, b: Point) -> Point
-    requires { Room (at a) (at b) }
-    ensures { at result ≡ crossed (at a) (at b) }
-{
-    Point {
-        x: a.y * b.z - a.z * b.y,
-        y: a.z * b.x - a.x * b.z,
-        z: a.x * b.y - a.y * b.x,
+    ghost can_mul = { λ k a. Scale k (to a) };
+
+    ghost mul_gives = { λ k a r. to r ≡ k ·ᵛ to a };
+
+    fn mul(self, rhs: Vector) -> Vector {
+        Vector {
+            x: self * rhs.x,
+            y: self * rhs.y,
+            z: self * rhs.z,
+        }
     }
 }

@@ -1,29 +1,28 @@
-use Rattle.std.proofs.Common.{[], ◌∷◌, pos, sym, subst₂, w64, SFits, rules}
+use Rattle.std.proofs.Common.{[], ◌∷◌, pos, ◌<ℤ◌, sym, subst, subst₂, w64, SFits, to_z, of_z, rules}
 use Rattle.std.proofs.lemmas.Int.{to_z-of_z}
 use Rattle.integers.specs.Divisors.{Reduced}
 use Rattle.integers.proofs.Order.{<ℤ→≤ℤ}
 use Rattle.integers.proofs.Overflow.{passed}
-use Rattle.nearest.proofs.Pairs.{size_extent}
-use Rattle.nearest.proofs.Faces.{positive}
-use Rattle.nearest.proofs.Tells.{cast_fits, cast_is, extent-kept, gap_bounds}
+use Rattle.nearest.proofs.Pairs.{positive, size_extent}
+use Rattle.nearest.proofs.Tells.{cast_is, extent-kept, gap_bounds}
 use Rattle.nearest.proofs.measure.report.Goals as goal
-
-pub overflow_cast-found : goal.overflow_cast-found
-overflow_cast-found c = cast_fits _ c.args.found.extent (extent-kept c.requires) (<ℤ→≤ℤ (positive c.requires)) (size_extent c.requires)
 
 pub invariant_of-lowest : goal.invariant_of-lowest
 invariant_of-lowest c =
-    let (low, over, few) = gap_bounds _ _ c.gap-square.result c.args.found.extent (passed c.gap-square.result c.gap-square.type_inv) (extent-kept c.requires) c.gap-square.ensures.high (positive c.requires) (size_extent c.requires) in
+    let (low, over, few) = gap_bounds _ _ c.gap-square.result c.args.found.extent (passed c.gap-square.result c.gap-square.type_inv) (extent-kept c.args.found) c.gap-square.ensures.high (positive c.args.found) (size_extent c.args.found) in
     record { low = low; over = over; few = few }
+
+pub invariant_of-lowest-2 : goal.invariant_of-lowest-2
+invariant_of-lowest-2 c = record { positive = subst (λ w. pos 0 <ℤ w) (sym (extent-kept c.args.found)) (positive c.args.found) }
 
 pub returns : goal.returns
 returns c =
-    let D = c.args.found.foot in let d = c.lowest-fraction.result.point in
+    let d = c.lowest-fraction.result.point in
     let fits : SFits w64 c.lowest-fraction.result.over = search rules in
     record {
-      fraction = subst₂ (λ w v. Reduced (D.x ∷ D.y ∷ D.z ∷ w ∷ []) (d.x ∷ d.y ∷ d.z ∷ v ∷ [])) (extent-kept c.requires) (sym (to_z-of_z w64 c.lowest-fraction.result.over fits)) c.lowest-fraction.ensures;
+      fraction = subst (λ D. Reduced (D.x ∷ D.y ∷ D.z ∷ c.args.found.extent ∷ []) (d.x ∷ d.y ∷ d.z ∷ to_z w64 (of_z w64 c.lowest-fraction.result.over) ∷ [])) c.end.ensures (subst₂ (λ w v. Reduced (c.end.result.x ∷ c.end.result.y ∷ c.end.result.z ∷ w ∷ []) (d.x ∷ d.y ∷ d.z ∷ v ∷ [])) (extent-kept c.args.found) (sym (to_z-of_z w64 c.lowest-fraction.result.over fits)) c.lowest-fraction.ensures);
       gap = c.gap-square.result;
       square = c.gap-square.ensures.square;
-      ratio = subst₂ (λ k w. Reduced (k ∷ w ∷ []) (pos c.lowest-ratio.result.p ∷ pos c.lowest-ratio.result.q ∷ [])) (cast_is _ c.gap-square.result (passed c.gap-square.result c.gap-square.type_inv) c.gap-square.ensures.low) (cast_is _ c.args.found.extent (extent-kept c.requires) (<ℤ→≤ℤ (positive c.requires))) c.lowest-ratio.ensures;
-      witnesses = c.witnesses-witnesses.ensures;
+      ratio = subst₂ (λ k w. Reduced (k ∷ w ∷ []) (pos c.lowest-ratio.result.p ∷ pos c.lowest-ratio.result.q ∷ [])) (cast_is _ c.gap-square.result (passed c.gap-square.result c.gap-square.type_inv) c.gap-square.ensures.low) (cast_is _ c.args.found.extent (extent-kept c.args.found) (<ℤ→≤ℤ (positive c.args.found))) c.lowest-ratio.ensures;
+      witnesses = c.witnesses.ensures;
     }

@@ -1,7 +1,0 @@
-use Rattle.convex.proofs.Sizes.{near_by}
-use Rattle.nearest.proofs.Rooms.{roomy}
-use Rattle.nearest.proofs.Pairs.{near_edge}
-use Rattle.nearest.proofs.solves.extent2.Goals as goal
-
-pub dot-requires : goal.dot-requires
-dot-requires c = roomy 56 56 (near_by c.along-e.ensures (near_edge c.args.a c.args.b)) (near_by c.along-e.ensures (near_edge c.args.a c.args.b)) tt tt tt

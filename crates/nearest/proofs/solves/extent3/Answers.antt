@@ -1,7 +1,0 @@
-use Rattle.convex.proofs.Sizes.{near_by}
-use Rattle.nearest.proofs.Rooms.{roomy}
-use Rattle.nearest.proofs.Pairs.{near-normal}
-use Rattle.nearest.proofs.solves.extent3.Goals as goal
-
-pub dot-requires : goal.dot-requires
-dot-requires c = roomy 4704 4704 (near_by c.normal-n.ensures (near-normal c.args.a c.args.b c.args.c)) (near_by c.normal-n.ensures (near-normal c.args.a c.args.b c.args.c)) tt tt tt
