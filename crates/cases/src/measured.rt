@@ -31,8 +31,8 @@ fn says(
     told: Told,
 ) -> Result<(), Fail> {
     let m = measured(first, second)?;
-    assert_eq!(rt; m.d, told.d, "{case}");
-    assert_eq!(rt; m.w, told.w, "{case}");
+    assert_eq!(rt; m.difference.point, told.d, "{case}");
+    assert_eq!(rt; m.difference.over, told.w, "{case}");
     assert_eq!(rt; m.gap.p, told.p, "{case}");
     assert_eq!(rt; m.gap.q, told.q, "{case}");
     Ok(())

@@ -4,6 +4,7 @@
 
 use anyhow::Context;
 use exact::corner::Corner;
+use exact::fraction::Fraction;
 use exact::gap::Gap;
 use exact::point::Point;
 use nearest::corners::Corners;
@@ -50,8 +51,8 @@ fn compared(rt: &(impl Print + AllocGlobal), line: &str) -> anyhow::Result<()> {
     let b = Corners::new(second.as_slice()).context("a body has no corners")?;
     match measure(&a, &b) {
         Ok(found) => {
-            let Point { x, y, z } = found.d;
-            let w = found.w;
+            let Fraction { point, over: w } = found.difference;
+            let Point { x, y, z } = point;
             let Gap { p, q } = found.gap;
             println!(rt; "{x} {y} {z} {w} {p} {q}")?;
         }

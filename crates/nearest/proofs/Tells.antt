@@ -128,7 +128,7 @@ module _ (ps qs : List Pt) (c : Carrier) (m : Measurement) (e : Ended ps qs c) (
   }
 
   -- lowest terms are no larger than the foot and the extent
-  small : Near 830000000 (at m.d) × (nat_abs m.w ≤ 120000000)
+  small : Near 830000000 (at m.difference.point) × (nat_abs m.difference.over ≤ 120000000)
   small =
       let near = near-foot c in
       let (x, y, z, w) = reduced_small t.fraction in

@@ -19,7 +19,7 @@ use Rattle.nearest.specs.Bodies.{OfBoth}
 
 -- D / W
 abbrev pub reported : Measurement → Frac
-reported m = at m.d ÷ m.w
+reported m = at m.difference.point ÷ m.difference.over
 
 -- the differences of the two corners of each witness, and their weights
 abbrev pub differences : List Witness → List Pt
@@ -60,8 +60,8 @@ pub record Reports (ps qs : List Pt) (m : Measurement) : Type 0 where
   pub over : 0 < m.gap.q
   pub reduced : Coprime (m.gap.p ∷ m.gap.q ∷ [])
   -- none of these numbers is large
-  pub d_small : Near 830000000 (at m.d)
-  pub w_small : unsigned_abs m.w ≤ 120000000
+  pub d_small : Near 830000000 (at m.difference.point)
+  pub w_small : unsigned_abs m.difference.over ≤ 120000000
   -- no difference of corners lies on the near side of it
   pub stopping : StoppingTest ps qs (reported m)
   -- and it comes from these corners
@@ -69,8 +69,8 @@ pub record Reports (ps qs : List Pt) (m : Measurement) : Type 0 where
 
 -- m and n say the same of the nearest difference and of the gap
 pub record Agrees (m n : Measurement) : Type 0 where
-  pub d_is : at m.d ≡ at n.d
-  pub w_is : m.w ≡ n.w
+  pub d_is : at m.difference.point ≡ at n.difference.point
+  pub w_is : m.difference.over ≡ n.difference.over
   pub p_is : m.gap.p ≡ n.gap.p
   pub q_is : m.gap.q ≡ n.gap.q
 

@@ -2,8 +2,8 @@
 ghost use Rattle.std.specs.Prelude.{List, Result};
 ghost use Rattle.refusals.specs.declared.Refusal.{Refusal};
 ghost use Rattle.integers.specs.Points.{Pt};
-ghost use Rattle.exact.specs.Spots.{heading};
-ghost use Rattle.nearest.specs.Bodies.{Found};
+ghost use Rattle.convex.specs.Hulls.{Found};
+ghost use Rattle.exact.specs.Spots.{heading, spot};
 
 use exact::corner::Corner;
 use exact::direction::Direction;
@@ -16,5 +16,5 @@ pub trait Body {
 
     // A corner that is farthest along the direction.
     fn farthest(&self, direction: Direction) -> Result<Corner, Refusal>
-        ensures { Found (corners self.now) (heading direction) result };
+        ensures { Found spot (corners self.now) (heading direction) result };
 }

@@ -15,6 +15,7 @@ use crate::steps::gap;
 use exact::corner::Corner;
 use exact::fraction::Fraction;
 use exact::gap::Gap;
+use exact::point::Point;
 use refusals::Refusal;
 
 // No witness: both corners at the origin, and the weight 0. As a constant its corners would be proved to be near anew at each use.
@@ -65,14 +66,13 @@ fn report(found: Carrier) -> Measurement
         q: found.extent as u64,
     }
     .lowest();
-    let fraction = Fraction {
-        point: found.foot.end(),
+    let difference = Fraction {
+        point: Point::from(found.foot),
         over: found.extent,
     }
     .lowest();
     Measurement {
-        d: fraction.point,
-        w: fraction.over,
+        difference,
         gap: ratio,
         witnesses: witnesses(found.simplex),
     }

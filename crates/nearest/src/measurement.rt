@@ -1,7 +1,7 @@
 // What is reported of two bodies: their nearest difference, its square, and the corners that it comes from.
 use exact::corner::Corner;
+use exact::fraction::Fraction;
 use exact::gap::Gap;
-use exact::point::Point;
 
 // A corner of the first body and one of the second, whose difference counts by the weight; a weight of 0 stands for none.
 #[derive(Clone, Copy)]
@@ -11,11 +11,10 @@ pub struct Witness {
     pub weight: i64,
 }
 
-// The nearest difference is d / w and the square of its length is the gap, both in lowest terms; the witnesses that count come first.
+// The nearest difference and the square of its length, both in lowest terms; the witnesses that count come first.
 #[derive(Clone, Copy)]
 pub struct Measurement {
-    pub d: Point,
-    pub w: i64,
+    pub difference: Fraction,
     pub gap: Gap,
     pub witnesses: [Witness; 4],
 }

@@ -2,7 +2,6 @@
 use crate::measurement::Witness;
 use crate::vectors::Vector;
 use exact::corner::Corner;
-use exact::point::Point;
 
 #[derive(Clone, Copy)]
 pub(crate) struct Pair {
@@ -20,7 +19,7 @@ impl Pair {
     pub(crate) fn difference(self) -> Vector
         ensures { to result ≡ between self }
     {
-        Vector::new(Point::from(self.first)) - Vector::new(Point::from(self.second))
+        Vector::from(self.first) - Vector::from(self.second)
     }
 
     // The pair as a witness of this weight.

@@ -11,6 +11,7 @@ use crate::span::Span;
 use crate::steps::grown;
 use crate::vectors::Vector;
 use exact::direction::Direction;
+use exact::point::Point;
 use refusals::Refusal;
 
 // The two bodies between which the nearest difference is sought.
@@ -26,8 +27,12 @@ impl<F: Body, G: Body> Bodies<'_, F, G> {
         requires { Near 1000000000 (to d) }
         ensures { OfBoth (Probed (to d)) (F.Body.corners self.now.first.now) (G.Body.corners self.now.second.now) result }
     {
-        let back = Direction { along: (-d).end() };
-        let onward = Direction { along: d.end() };
+        let back = Direction {
+            along: Point::from(-d),
+        };
+        let onward = Direction {
+            along: Point::from(d),
+        };
         Ok(Pair {
             first: self.first.farthest(back)?,
             second: self.second.farthest(onward)?,

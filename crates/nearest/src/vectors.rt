@@ -3,9 +3,11 @@ ghost use Rattle.std.specs.Prelude.{◌≡◌, ◌^◌};
 ghost use Rattle.integers.specs.Points.{◌+ᵛ◌, ◌-ᵛ◌, ◌·ᵛ◌, dot as dotted, cross as crossed, origin};
 ghost use Rattle.integers.specs.Space.{Near};
 ghost use Rattle.exact.specs.Space.{at};
+ghost use Rattle.exact.specs.Spots.{spot};
 ghost use Rattle.nearest.specs.Room.{Room, Scale};
 ghost use Rattle.nearest.specs.Vectors.{to};
 
+use exact::corner::Corner;
 use exact::point::Point;
 use std::ops::{Add, Mul, Neg, Sub};
 
@@ -20,28 +22,6 @@ pub(crate) struct Vector {
 impl Vector {
     // From the origin to itself.
     pub(crate) const ZERO: Vector = Vector { x: 0, y: 0, z: 0 };
-
-    // To a point.
-    pub(crate) fn new(p: Point) -> Vector
-        ensures { to result ≡ at p }
-    {
-        Vector {
-            x: p.x,
-            y: p.y,
-            z: p.z,
-        }
-    }
-
-    // The point that it leads to.
-    pub(crate) fn end(self) -> Point
-        ensures { at result ≡ to self }
-    {
-        Point {
-            x: self.x,
-            y: self.y,
-            z: self.z,
-        }
-    }
 
     // The three products of like coordinates, added.
     pub(crate) fn dot(self, other: Vector) -> i64
@@ -60,6 +40,32 @@ impl Vector {
             x: self.y * other.z - self.z * other.y,
             y: self.z * other.x - self.x * other.z,
             z: self.x * other.y - self.y * other.x,
+        }
+    }
+}
+
+// The way from the origin to a corner.
+impl From<Corner> for Vector {
+    ghost from_gives = { λ c v. to v ≡ spot c };
+
+    fn from(c: Corner) -> Vector {
+        Vector {
+            x: i64::from(c.x),
+            y: i64::from(c.y),
+            z: i64::from(c.z),
+        }
+    }
+}
+
+// The point to which a vector leads from the origin.
+impl From<Vector> for Point {
+    ghost from_gives = { λ v p. at p ≡ to v };
+
+    fn from(v: Vector) -> Point {
+        Point {
+            x: v.x,
+            y: v.y,
+            z: v.z,
         }
     }
 }

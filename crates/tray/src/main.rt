@@ -7,6 +7,7 @@ use crate::shapes::{CASE_WITH_FEET, SLANTED_LID};
 use anyhow::Context;
 use exact::corner::Corner;
 use exact::direction::Direction;
+use exact::fraction::Fraction;
 use exact::point::Point;
 use exact::scores::farthest;
 use nearest::corners::Corners;
@@ -33,8 +34,12 @@ fn print_farthest(rt: &impl Print, corners: &[Corner], along: Point) -> anyhow::
 
 // The numbers of a measurement and its witnesses; places after these have weight 0.
 fn print_measurement(rt: &impl Print, found: &Measurement) -> anyhow::Result<()> {
-    let (d, w, gap) = (found.d, found.w, found.gap);
-    println!(rt; "  nearest difference D / W = {d}/{w}, squared gap p / q = {gap}")?;
+    let Measurement {
+        difference,
+        gap,
+        ..
+    } = *found;
+    println!(rt; "  nearest difference D / W = {difference}, squared gap p / q = {gap}")?;
     for witness in found.witnesses.iter().filter(|w| w.weight != 0) {
         let a = Point::from(witness.first);
         let b = Point::from(witness.second);
@@ -63,8 +68,8 @@ fn dot(a: Point, b: Point) -> Option<i64> {
 
 // W times the product of D and a − b, where that fits.
 fn reach(found: &Measurement, a: Corner, b: Corner) -> Option<i64> {
-    let difference = minus(Point::from(a), Point::from(b))?;
-    dot(found.d, difference)?.checked_mul(found.w)
+    let Fraction { point: d, over: w } = found.difference;
+    dot(d, minus(Point::from(a), Point::from(b))?)?.checked_mul(w)
 }
 
 // The least of W D · (a − b) over the corners b of the second body: nothing where one does not fit.
@@ -79,7 +84,8 @@ fn print_stopping_test(
     first: &[Corner],
     second: &[Corner],
 ) -> anyhow::Result<()> {
-    let limit = dot(found.d, found.d).context("the square of D does not fit")?;
+    let d = found.difference.point;
+    let limit = dot(d, d).context("the square of D does not fit")?;
     println!(rt;
         "  no corners are nearer: W D·(a − b) is at least D·D = {limit} for each corner a of the first and b of the second"
     )?;

@@ -18,8 +18,8 @@ point x y z = record { x = x; y = y; z = z }
 
 -- m says what the row says
 pub record Says (r : Row) (m : Measurement) : Type 0 where
-  pub d_is : at m.d ≡ r.d
-  pub w_is : m.w ≡ r.w
+  pub d_is : at m.difference.point ≡ r.d
+  pub w_is : m.difference.over ≡ r.w
   pub p_is : m.gap.p ≡ r.p
   pub q_is : m.gap.q ≡ r.q
 

@@ -1,8 +1,8 @@
-use Rattle.std.proofs.Common.{[], ◌∷◌, pos, ◌<ℤ◌, sym, subst, subst₂, w64, SFits, to_z, of_z, rules}
-use Rattle.std.proofs.lemmas.Int.{to_z-of_z}
+use Rattle.std.proofs.Common.{[], ◌∷◌, pos, ◌<ℤ◌, sym, subst, subst₂}
 use Rattle.integers.specs.Divisors.{Reduced}
 use Rattle.integers.proofs.Order.{<ℤ→≤ℤ}
 use Rattle.integers.proofs.Overflow.{passed}
+use Rattle.exact.specs.Terms.{terms}
 use Rattle.nearest.proofs.Pairs.{positive, size_extent}
 use Rattle.nearest.proofs.Tells.{cast_is, extent-kept, gap_bounds}
 use Rattle.nearest.proofs.measure.report.Goals as goal
@@ -17,10 +17,8 @@ invariant_of-lowest-2 c = record { positive = subst (λ w. pos 0 <ℤ w) (sym (e
 
 pub returns : goal.returns
 returns c =
-    let d = c.lowest-fraction.result.point in
-    let fits : SFits w64 c.lowest-fraction.result.over = search rules in
     record {
-      fraction = subst (λ D. Reduced (D.x ∷ D.y ∷ D.z ∷ c.args.found.extent ∷ []) (d.x ∷ d.y ∷ d.z ∷ to_z w64 (of_z w64 c.lowest-fraction.result.over) ∷ [])) c.end.ensures (subst₂ (λ w v. Reduced (c.end.result.x ∷ c.end.result.y ∷ c.end.result.z ∷ w ∷ []) (d.x ∷ d.y ∷ d.z ∷ v ∷ [])) (extent-kept c.args.found) (sym (to_z-of_z w64 c.lowest-fraction.result.over fits)) c.lowest-fraction.ensures);
+      fraction = subst (λ D. Reduced (D.x ∷ D.y ∷ D.z ∷ c.args.found.extent ∷ []) (terms c.lowest-difference.result)) c.from.ensures (subst (λ w. Reduced (c.from.result.x ∷ c.from.result.y ∷ c.from.result.z ∷ w ∷ []) (terms c.lowest-difference.result)) (extent-kept c.args.found) c.lowest-difference.ensures);
       gap = c.gap-square.result;
       square = c.gap-square.ensures.square;
       ratio = subst₂ (λ k w. Reduced (k ∷ w ∷ []) (pos c.lowest-ratio.result.p ∷ pos c.lowest-ratio.result.q ∷ [])) (cast_is _ c.gap-square.result (passed c.gap-square.result c.gap-square.type_inv) c.gap-square.ensures.low) (cast_is _ c.args.found.extent (extent-kept c.args.found) (<ℤ→≤ℤ (positive c.args.found))) c.lowest-ratio.ensures;
