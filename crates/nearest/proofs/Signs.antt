@@ -40,6 +40,3 @@ neg_once s e x = ap (λ t. neg_ℤ (t *ℤ x)) e ∙ solve (x ∷ []) (neg (con 
 -- the size of the volume
 pub minus_abs : (v : ℤ) → lt_z v (pos 0) ≡ true → pos 0 -ℤ v ≡ pos (nat_abs v)
 minus_abs v h = omega (arith, ints)
-
-pub plus_abs : (v : ℤ) → lt_z v (pos 0) ≡ false → v ≡ pos (nat_abs v)
-plus_abs v h = omega (arith, ints)

@@ -37,7 +37,8 @@ pub(crate) trait Span<const N: usize>: Copy {
     fn by_faces(self) -> Option<Carrier>
         ensures { ByFaces (pairs self) result };
 
-    // What carries the nearest point.
+    // What carries the nearest point. Inlined, as are the faces: a call would copy the carrier, which costs a tenth of the time.
+    #[inline(always)]
     final fn nearest(self) -> Carrier
         ensures { Carried (pairs self) result }
     {
