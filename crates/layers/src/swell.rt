@@ -1,5 +1,6 @@
 // The swell layer: every corner of the book below is replaced by the eight corners of the box that reaches m from it on every side.
 ghost use Rattle.std.specs.Prelude.{◌≡◌, pos, ◌-ℤ◌, int_lt, unsigned_abs};
+ghost use Rattle.refusals.specs.Slips.{swelled_too_far};
 ghost use Rattle.integers.specs.Points.{dot, ◌+ᵛ◌, ◌-ᵛ◌};
 ghost use Rattle.exact.specs.Spots.{heading, spot};
 ghost use Rattle.layers.specs.Layers.{cube, swelled};
@@ -75,6 +76,17 @@ fn is_beyond(axis: Direction, c: PartCorner, by: u8) -> bool
     axis.product(Corner::from(c)) > 5 - i64::from(by)
 }
 
+// The slip for a part that has no room.
+fn too_far(part: u16) -> Refusal
+    ensures { result ≡ swelled_too_far part }
+{
+    Refusal {
+        reason: Reason::SwelledTooFar,
+        layer: Layer::Swell,
+        place: u32::from(part),
+    }
+}
+
 impl<B: PartBook> Swell<B> {
     // Whether the part has room along an axis: its farthest corner tells.
     fn has_room_along(&self, part: u16, axis: Direction) -> Result<(), Refusal>
@@ -82,11 +94,7 @@ impl<B: PartBook> Swell<B> {
     {
         let c = self.book.farthest_along(part, axis)?;
         if is_beyond(axis, c, self.by) {
-            return Err(Refusal {
-                reason: Reason::SwelledTooFar,
-                layer: Layer::Swell,
-                place: u32::from(part),
-            });
+            return Err(too_far(part));
         }
         Ok(())
     }

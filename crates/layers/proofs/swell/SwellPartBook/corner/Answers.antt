@@ -1,6 +1,5 @@
 use Rattle.std.proofs.Common.{◌/◌, Ok, ap, ◌∙◌, rules}
 use Rattle.std.specs.Option.{option_map}
-use Rattle.std.proofs.lemmas.Result.{err_from_is_err_and}
 use Rattle.integers.specs.Points.{Pt, ◌+ᵛ◌, ◌-ᵛ◌}
 use Rattle.exact.specs.Spots.{spot}
 use Rattle.parts.specs.Boxes.{vertex}
@@ -10,9 +9,7 @@ use Rattle.layers.proofs.Swells.{swelled_corner_refused, corner_roomy, swelled_c
 use Rattle.layers.proofs.swell.SwellPartBook.corner.Goals as goal
 
 pub returns-in_err-has_room : goal.returns-in_err-has_room
-returns-in_err-has_room g c =
-    let (s, is, from) = err_from_is_err_and c.from_residual.result c.from_residual.ensures.1 in
-    rw (is, from) (swelled_corner_refused c.args.self.now.by c.args.part c.args.k (g.B.Meaning.meaning c.args.self.now.book c.args.part) _ c.in_err-has_room.ensures)
+returns-in_err-has_room g c = search (rules, swelled_corner_refused)
 
 pub map-requires : goal.map-requires
 map-requires g c =

@@ -1,13 +1,10 @@
 use Rattle.std.proofs.Common.{rules}
-use Rattle.std.proofs.lemmas.Result.{err_from_is_err_and}
 use Rattle.exact.specs.Spots.{heading}
 use Rattle.layers.proofs.Swells.{swelled-refused, found-roomy, swelled-found}
 use Rattle.layers.proofs.swell.SwellPartBook.farthest_along.Goals as goal
 
 pub returns-in_err-has_room : goal.returns-in_err-has_room
-returns-in_err-has_room g c =
-    let (s, is, from) = err_from_is_err_and c.from_residual.result c.from_residual.ensures.1 in
-    rw (is, from) (swelled-refused c.args.self.now.by c.args.part (heading c.args.direction) (g.B.Meaning.meaning c.args.self.now.book c.args.part) _ c.in_err-has_room.ensures)
+returns-in_err-has_room g c = search (rules, swelled-refused)
 
 pub widened-requires : goal.widened-requires
 widened-requires g c = found-roomy c.args.self.now.by c.args.part (heading c.args.direction) (g.B.Meaning.meaning c.args.self.now.book c.args.part) c.in_ok-c.c c.in_ok-has_room.ensures c.in_ok-c.ensures
