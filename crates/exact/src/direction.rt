@@ -4,6 +4,7 @@ ghost use Rattle.exact.specs.Space.{Within};
 
 use crate::point::Point;
 
+// It is no `Spot`: its numbers have 64 bits, and numbers beyond its reach are refused by a slip of the product, not by an error of this crate.
 #[derive(Clone, Copy)]
 pub struct Direction {
     pub along: Point,

@@ -11,12 +11,9 @@ use crate::point::Point;
 pub fn gcd(a: u64, b: u64) -> u64
     ensures { Greatest (a ∷ b ∷ []) result }
 {
-    let mut x = a;
-    let mut y = b;
+    let (mut x, mut y) = (a, b);
     while y != 0 {
-        let r = x % y;
-        x = y;
-        y = r;
+        (x, y) = (y, x % y);
     }
     x
 }
@@ -58,7 +55,8 @@ impl Fraction {
 }
 
 impl Gap {
-    // The same gap in lowest terms.
+    // The same gap in lowest terms. One function with that of fractions would have to take two numbers for four and unsigned ones for signed:
+    // only `gcd` is common to both.
     pub fn lowest(self) -> Gap
         ensures { Reduced (parts self) (parts result) }
     {

@@ -32,6 +32,7 @@ impl<const REACH: u8> TryFrom<Point> for Spot<REACH> {
         if !p.is_within(u64::from(REACH.min(127))) {
             return Err(TooFar { reach: REACH });
         }
+        // `i8::try_from` would test the same bounds once more.
         Ok(Spot {
             x: p.x as i8,
             y: p.y as i8,

@@ -3,7 +3,8 @@ use exact::corner::Corner;
 use exact::fraction::Fraction;
 use exact::gap::Gap;
 
-// A corner of the first body and one of the second, whose difference counts by the weight; a weight of 0 stands for none.
+// A corner of the first body and one of the second, whose difference counts by the weight. A weight of 0 stands for no witness: the rules of a
+// measurement fill its four places with zeros after the last one, so that it has one form in fixed memory.
 #[derive(Clone, Copy)]
 pub struct Witness {
     pub first: Corner,
