@@ -34,6 +34,7 @@ impl<'a> Body for Corners<'a> {
         let Some(best) = farthest(self.list, direction) else {
             unreachable!()
         };
-        Ok(self.list[best.candidate])
+        let place = best.candidate;
+        Ok(self.list[place])
     }
 }

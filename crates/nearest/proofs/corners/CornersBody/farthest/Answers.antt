@@ -3,4 +3,4 @@ use Rattle.nearest.proofs.Lists.{farthest-placed}
 use Rattle.nearest.proofs.corners.CornersBody.farthest.Goals as goal
 
 pub returns : goal.returns
-returns c = farthest-placed c.args.self.now.list.now (heading c.args.direction) c.in-Some.best c.index-self-best.result c.in-Some.ensures
+returns c = farthest-placed c.args.self.now.list.now (heading c.args.direction) c.in-Some.best c.index-self-place.result c.in-Some.ensures
