@@ -25,10 +25,10 @@ spot c = record { x = c.x; y = c.y; z = c.z }
 abbrev pub heading : Direction → Pt
 heading d = at d.along
 
--- the corner at p where each coordinate is within ±n, and else that this reach is too short
+-- the corner at p where each coordinate is within ±n, and else that n is too short
 abbrev pub Reached : {m : ℕ} → ℕ → Pt → Result (Spot m) TooFar → Type 0
-Reached {m} n p (Ok c) = Near n p × (spot c ≡ p)
-Reached {m} n p (Err e) = (Near n p → ⊥) × (e.reach ≡ m)
+Reached n p (Ok c) = Near n p × (spot c ≡ p)
+Reached n p (Err e) = (Near n p → ⊥) × (e.reach ≡ n)
 
 -- the direction of the numbers of p, or the slip that says that one of them is beyond ±2,000,000,000
 abbrev pub Headed : Pt → Result Direction Refusal → Type 0

@@ -1,7 +1,7 @@
 -- The numbers of fractions and gaps, their bounds, and the order of gaps.
-use Rattle.std.specs.Prelude.{◌≡◌, ℕ, ◌*◌, ◌<◌, ◌≤◌, Bool, List, [], ◌∷◌, ℤ, pos, ◌<ℤ◌, Some, None, Option, nat_lt}
+use Rattle.std.specs.Prelude.{◌≡◌, ℕ, ◌*◌, ◌<◌, ◌≤◌, Bool, List, [], ◌∷◌, ℤ, pos, ◌<ℤ◌, Some, None, Option}
 use Rattle.std.specs.declared.cmp.Ordering.{Ordering}
-use Rattle.std.specs.Ordering.{nat_cmp}
+use Rattle.std.specs.Ordering.{nat_cmp, is_lt}
 use Rattle.exact.specs.declared.point.Point.{Point}
 use Rattle.exact.specs.declared.fraction.Fraction.{Fraction}
 use Rattle.exact.specs.declared.gap.Gap.{Gap}
@@ -14,13 +14,13 @@ terms x = x.point.x ∷ x.point.y ∷ x.point.z ∷ x.over ∷ []
 abbrev pub parts : Gap → List ℤ
 parts g = pos g.p ∷ pos g.q ∷ []
 
--- as fractions g < h: by cross products
-abbrev pub narrower : Gap → Gap → Bool
-narrower g h = nat_lt (g.p * h.q) (h.p * g.q)
-
--- how g and h compare as fractions
+-- how g and h compare as fractions: by cross products
 abbrev pub crossed : Gap → Gap → Ordering
 crossed g h = nat_cmp (g.p * h.q) (h.p * g.q)
+
+-- as fractions g < h
+abbrev pub narrower : Gap → Gap → Bool
+narrower g h = is_lt (crossed g h)
 
 -- the point over the number exactly when the number is at least 1
 abbrev pub OverPositive : Point → ℤ → Option Fraction → Type 0

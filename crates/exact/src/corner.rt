@@ -2,7 +2,7 @@
 ghost use Rattle.integers.specs.Points.{Pt};
 ghost use Rattle.integers.specs.Space.{Near};
 
-// A corner with each coordinate within ±REACH.
+// A corner with each coordinate within ±REACH. (A const parameter beside a ghost field is not signed today, so it is a `u8`.)
 #[derive(Clone, Copy)]
 pub struct Spot<const REACH: u8> {
     pub x: i8,

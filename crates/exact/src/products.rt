@@ -8,7 +8,7 @@ use crate::corner::{Corner, PartCorner, Shift, Spot};
 use crate::direction::Direction;
 use crate::point::Point;
 use crate::too_far::TooFar;
-use refusals::{Layer, Reason, Refusal};
+use refusals::Refusal;
 use std::ops::Add;
 
 impl Point {
@@ -22,15 +22,16 @@ impl Point {
     }
 }
 
-// The corner at a point, where no coordinate is beyond ±REACH (a byte holds at most ±127).
+// The corner at a point, where no coordinate is beyond ±REACH, or ±127, which is what a byte holds.
 impl<const REACH: u8> TryFrom<Point> for Spot<REACH> {
     type Error = TooFar;
 
     ghost try_from_gives = { λ p r. Reached (min REACH 127) (at p) r };
 
     fn try_from(p: Point) -> Result<Spot<REACH>, TooFar> {
-        if !p.is_within(u64::from(REACH.min(127))) {
-            return Err(TooFar { reach: REACH });
+        let reach = REACH.min(127);
+        if !p.is_within(u64::from(reach)) {
+            return Err(TooFar { reach });
         }
         // `i8::try_from` would test the same bounds once more.
         Ok(Spot {
@@ -102,11 +103,7 @@ impl TryFrom<Point> for Direction {
 
     fn try_from(p: Point) -> Result<Direction, Refusal> {
         if !p.is_within(2000000000) {
-            return Err(Refusal {
-                reason: Reason::DirectionTooLong,
-                layer: Layer::Call,
-                place: 0,
-            });
+            return Err(Refusal::direction_too_long());
         }
         Ok(Direction { along: p })
     }

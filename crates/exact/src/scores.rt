@@ -26,17 +26,31 @@ impl Scoring<Corner> for Direction {
     }
 }
 
-// The least element is the best.
+// An element that is a score is scored by itself.
 #[derive(Clone, Copy)]
-pub struct Least;
+pub struct Itself;
 
-impl<S: Ord + Copy> Scoring<S> for Least {
-    type Score = Reverse<S>;
+impl<S: Ord + Copy> Scoring<S> for Itself {
+    type Score = S;
 
-    ghost score_of = { λ _ s. record { 0 = s } };
+    ghost score_of = { λ _ s. s };
 
-    fn score(&self, element: &S) -> Reverse<S> {
-        Reverse(*element)
+    fn score(&self, element: &S) -> S {
+        *element
+    }
+}
+
+// The least score of a scoring is the best.
+#[derive(Clone, Copy, Drop)]
+pub struct Least<F>(pub F);
+
+impl<T, F: Scoring<T>> Scoring<T> for Least<F> {
+    type Score = Reverse<F::Score>;
+
+    ghost score_of = { λ s x. record { 0 = F.Scoring.score_of s.0 x } };
+
+    fn score(&self, element: &T) -> Reverse<F::Score> {
+        Reverse(self.0.score(element))
     }
 }
 
@@ -51,7 +65,7 @@ pub fn farthest(corners: &[Corner], direction: Direction) -> Option<Scored<usize
 pub fn narrowest(gaps: &[Gap]) -> Option<Scored<usize, Gap>>
     ensures { Narrowest gaps.now result }
 {
-    let best = first_best_of(gaps, Least)?;
+    let best = first_best_of(gaps, Least(Itself))?;
     Some(Scored {
         candidate: best.candidate,
         score: best.score.0,

@@ -1,5 +1,7 @@
 -- The slips that calls give, each by what it says.
-use Rattle.std.specs.Prelude.{ℕ}
+use Rattle.std.specs.Prelude.{ℕ, List, ◌++◌, codes}
+use Rattle.std.specs.Fmt.{decimal}
+use Rattle.refusals.specs.Numbers.{reason_number, layer_number}
 use Rattle.refusals.specs.declared.Reason.TheVariants.{DirectionTooLong, NoSuchPart, SwelledTooFar, PoseOutOfRange}
 use Rattle.refusals.specs.declared.Layer.{Layer}
 use Rattle.refusals.specs.declared.Layer.TheVariants.{Call, Swell, Cell}
@@ -20,3 +22,7 @@ swelled_too_far n = record { reason = SwelledTooFar; layer = Swell; place = n }
 -- the turn is not 0 to 3, or the offset or offset plus travel is beyond ±9
 abbrev pub pose_out_of_range : Refusal
 pose_out_of_range = record { reason = PoseOutOfRange; layer = Cell; place = 0 }
+
+-- what is printed of a slip: its three numbers
+abbrev pub slip_text : Refusal → List ℕ
+slip_text s = codes "refused by " ++ decimal (reason_number s.reason) ++ codes " (layer " ++ decimal (layer_number s.layer) ++ codes ", place " ++ decimal s.place ++ codes ")"

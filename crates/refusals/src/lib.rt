@@ -1,8 +1,12 @@
 // Why a call is refused: a reason and a layer, each with its number, and a place. A refusal is passed up unaltered by every layer.
 #![tactic(auto)]
 
-ghost use Rattle.std.specs.Prelude.{◌≡◌};
+ghost use Rattle.std.specs.Prelude.{◌≡◌, Some};
 ghost use Rattle.refusals.specs.Numbers.{reason_number, layer_number};
+ghost use Rattle.refusals.specs.Slips.{direction_too_long, part_missing, swelled_too_far, pose_out_of_range, slip_text};
+
+use std::error::Error;
+use std::fmt;
 
 // The reasons, by what is wrong.
 #[derive(Clone, Copy, PartialEq, Eq, Debug)]
@@ -34,7 +38,7 @@ pub enum Layer {
     Store = 5,
 }
 
-// A refusal slip. The place is a record, part or station, and 0 where none is named.
+// A refusal slip. The place is a record, part or station. It is a number, 0 where none is named, and no `Option`: the rules make a slip three numbers.
 #[derive(Clone, Copy, PartialEq, Eq, Debug)]
 pub struct Refusal {
     pub reason: Reason,
@@ -42,7 +46,69 @@ pub struct Refusal {
     pub place: u32,
 }
 
-// The number that a slip prints for a reason.
+impl Refusal {
+    // A number of a direction is beyond ±2,000,000,000.
+    pub fn direction_too_long() -> Refusal
+        ensures { result ≡ direction_too_long }
+    {
+        Refusal {
+            reason: Reason::DirectionTooLong,
+            layer: Layer::Call,
+            place: 0,
+        }
+    }
+
+    // The book of a layer has no such part.
+    pub fn part_missing(layer: Layer, part: u16) -> Refusal
+        ensures { result ≡ part_missing layer part }
+    {
+        Refusal {
+            reason: Reason::NoSuchPart,
+            layer,
+            place: u32::from(part),
+        }
+    }
+
+    // A swelled coordinate of the part is beyond ±5.
+    pub fn swelled_too_far(part: u16) -> Refusal
+        ensures { result ≡ swelled_too_far part }
+    {
+        Refusal {
+            reason: Reason::SwelledTooFar,
+            layer: Layer::Swell,
+            place: u32::from(part),
+        }
+    }
+
+    // A turn is not 0 to 3, or an end of a travel is beyond ±9.
+    pub fn pose_out_of_range() -> Refusal
+        ensures { result ≡ pose_out_of_range }
+    {
+        Refusal {
+            reason: Reason::PoseOutOfRange,
+            layer: Layer::Cell,
+            place: 0,
+        }
+    }
+}
+
+// A slip by its three numbers.
+impl fmt::Display for Refusal {
+    ghost output = { λ slip. Some (slip_text slip) };
+
+    fn fmt<W: fmt::Write>(&self, f: &mut fmt::Formatter<W>) -> fmt::Result {
+        let (reason, layer) = (u8::from(self.reason), u8::from(self.layer));
+        write!(
+            f,
+            "refused by {reason} (layer {layer}, place {})",
+            self.place
+        )
+    }
+}
+
+impl Error for Refusal {}
+
+// The number of a reason, as slips print it.
 impl From<Reason> for u8 {
     ghost from_gives = { λ reason number. number ≡ reason_number reason };
 
@@ -51,7 +117,7 @@ impl From<Reason> for u8 {
     }
 }
 
-// The number that a slip prints for a layer.
+// The number of a layer, as slips print it.
 impl From<Layer> for u8 {
     ghost from_gives = { λ layer number. number ≡ layer_number layer };
 

@@ -23,7 +23,8 @@ pub fn first_best<C: Candidates + Drop>(mut candidates: C) -> Option<C::Item>
 {
     let mut best = candidates.next()?;
     while let Some(next) = candidates.next() {
-        if next > best {
+        let better = next > best;
+        if better {
             best = next;
         }
     }

@@ -1,4 +1,4 @@
-// The first best of a list: its places are the candidates, so that nothing of the list is copied.
+// The first best of a list. Its places are the candidates, since a caller names a corner or a station by its place, and nothing of the list is copied.
 ghost use Rattle.std.specs.Prelude.{◌≡◌, ◌+◌, ◌<◌, ◌^◌, length};
 ghost use Rattle.std.specs.Iterator.Adapters.{enumerate_source, enumerate_count};
 ghost use Rattle.std.specs.Slice.Iter.{iter_rest};

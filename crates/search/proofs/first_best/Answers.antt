@@ -6,8 +6,8 @@ use Rattle.search.proofs.first_best.Goals as goal
 pub loop-next-init : goal.loop-next-init
 loop-next-init g c = (c.in_ok-best.best ∷ [], refl, first_alone g.C.Item.Ord.cmp g.met.C.Item.Ord.total c.in_ok-best.best)
 
-pub loop-next-preserved-then-gt : goal.loop-next-preserved-then-gt
-loop-next-preserved-then-gt g c =
+pub loop-next-preserved-then-better : goal.loop-next-preserved-then-better
+loop-next-preserved-then-better g c =
     let same = g.met.C.Item.Ord.matches_partial_cmp c.in-Some.next c.loop-next.best in
     let beaten : no_better g.C.Item.Ord.cmp c.in-Some.next c.loop-next.best ≡ false = search rules in (
       c.loop-next.invariant.0 ++ c.in-Some.next ∷ [],
