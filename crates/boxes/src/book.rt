@@ -2,8 +2,6 @@
 ghost use Rattle.std.specs.Prelude.{◌≡◌, filter};
 ghost use Rattle.std.specs.Option.{option_copied};
 ghost use Rattle.std.specs.List.{slice_get};
-ghost use Rattle.refusals.specs.declared.Layer.TheVariants.{BoxBook as of_box_book};
-ghost use Rattle.refusals.specs.Slips.{part_missing};
 ghost use Rattle.boxes.specs.Entries.{boxed, counts_for_part};
 ghost use Rattle.boxes.specs.EntryLaws.{boxed-some, boxed-near};
 
@@ -13,7 +11,7 @@ use exact::corner::PartCorner;
 use exact::direction::Direction;
 use parts::book::{Meaning, PartBook};
 use parts::octant::Octant;
-use refusals::{Layer, Reason, Refusal};
+use refusals::{Layer, Refusal};
 use search::listed::first_best_of;
 
 // A book of boxes: a part lists the corners of its entries, in their order. The entries are not copied.
@@ -38,17 +36,6 @@ impl<'a> BoxBook<'a> {
     }
 }
 
-// The slip for a part that no entry counts for.
-fn no_such_part(part: u16) -> Refusal
-    ensures { result ≡ part_missing of_box_book part }
-{
-    Refusal {
-        reason: Reason::NoSuchPart,
-        layer: Layer::BoxBook,
-        place: u32::from(part),
-    }
-}
-
 impl<'a> Meaning for BoxBook<'a> {
     ghost meaning = { λ b n. boxed b.entries.now n };
 
@@ -62,11 +49,12 @@ impl<'a> PartBook for BoxBook<'a> {
         let octant = Octant::towards(direction);
         first_best_of(self.entries, Reach { part, direction })
             .and_then(|best| self.entries[best.candidate].vertex_for(part, octant))
-            .ok_or(no_such_part(part))
+            .ok_or(Refusal::part_missing(Layer::BoxBook, part))
     }
 
     fn corner(&self, part: u16, k: usize) -> Result<Option<PartCorner>, Refusal> {
-        self.entry_of(part, 0).ok_or(no_such_part(part))?;
+        let missing = Refusal::part_missing(Layer::BoxBook, part);
+        self.entry_of(part, 0).ok_or(missing)?;
         let octant = Octant::numbered(k);
         let entry = self.entry_of(part, k / 8);
         Ok(entry.and_then(|e| e.vertex_for(part, octant)))

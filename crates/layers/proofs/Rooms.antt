@@ -26,9 +26,9 @@ pub too_far : (m n : ℕ) (d : Pt) (M : Part) (c : PartCorner) → lt_z (pos 5 -
 too_far m n d (Ok ps) c e f = (refl, λ h. beyond (pos 5 -ℤ pos m) (dot d (spot c)) e (all-has (Inside m d) ps (spot c) h f.one))
 too_far m n d (Err s) c e f = absurd f
 
-pub has_room : (m n : ℕ) (d : Pt) (M : Part) (c : PartCorner) → lt_z (pos 5 -ℤ pos m) (dot d (spot c)) ≡ false → Found spot M d (Ok c) → Cleared {X = Unit {0}} (Inside m d) n M (Ok tt)
-has_room m n d (Ok ps) c e f = All-weaker (λ p. dot d p ≤ℤ dot d (spot c)) (Inside m d) (λ p l. ≤ℤ_trans l (not_beyond (pos 5 -ℤ pos m) (dot d (spot c)) e)) ps f.most
-has_room m n d (Err s) c e f = absurd f
+pub check_room : (m n : ℕ) (d : Pt) (M : Part) (c : PartCorner) → lt_z (pos 5 -ℤ pos m) (dot d (spot c)) ≡ false → Found spot M d (Ok c) → Cleared {X = Unit {0}} (Inside m d) n M (Ok tt)
+check_room m n d (Ok ps) c e f = All-weaker (λ p. dot d p ≤ℤ dot d (spot c)) (Inside m d) (λ p l. ≤ℤ_trans l (not_beyond (pos 5 -ℤ pos m) (dot d (spot c)) e)) ps f.most
+check_room m n d (Err s) c e f = absurd f
 
 -- ---- along the six axes
 abbrev pub axes : List Pt

@@ -35,6 +35,7 @@ impl<B: Meaning, C: Meaning> Meaning for Join<B, C> {
     ghost near = { λ j. joined_keeps (λ ps. AllByRecursion (Near 5) ps) j.last (B.Meaning.meaning j.first) (C.Meaning.meaning j.second) (B.Meaning.near j.first) (C.Meaning.near j.second) };
 }
 
+// The two books are of two types, so that one helper for both calls would take two closures, and be no shorter than the two matches.
 impl<B: PartBook, C: PartBook> PartBook for Join<B, C> {
     fn farthest_along(&self, part: u16, direction: Direction) -> Result<PartCorner, Refusal> {
         match self.in_second(part) {

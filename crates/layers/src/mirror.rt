@@ -24,8 +24,9 @@ impl<B: Meaning> Meaning for Mirror<B> {
 
 impl<B: PartBook> PartBook for Mirror<B> {
     fn farthest_along(&self, part: u16, direction: Direction) -> Result<PartCorner, Refusal> {
-        let c = self.book.farthest_along(part, direction.mirrored())?;
-        Ok(c.mirrored())
+        self.book
+            .farthest_along(part, direction.mirrored())
+            .map(|c| c.mirrored())
     }
 
     fn corner(&self, part: u16, k: usize) -> Result<Option<PartCorner>, Refusal> {

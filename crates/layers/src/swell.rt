@@ -1,6 +1,5 @@
 // The swell layer: every corner of the book below is replaced by the eight corners of the box that reaches m from it on every side.
 ghost use Rattle.std.specs.Prelude.{◌≡◌, pos, ◌-ℤ◌, int_lt, unsigned_abs};
-ghost use Rattle.refusals.specs.Slips.{swelled_too_far};
 ghost use Rattle.integers.specs.Points.{dot, ◌+ᵛ◌, ◌-ᵛ◌};
 ghost use Rattle.exact.specs.Spots.{heading, spot};
 ghost use Rattle.layers.specs.Layers.{cube, swelled};
@@ -13,7 +12,7 @@ use exact::point::Point;
 use parts::block::Block;
 use parts::book::{Meaning, PartBook};
 use parts::octant::Octant;
-use refusals::{Layer, Reason, Refusal};
+use refusals::Refusal;
 
 // The book below, swelled by 0 to 255 steps on every side.
 #[derive(Clone, Copy, Drop)]
@@ -44,7 +43,7 @@ const AXES: [Direction; 6] = [
     },
 ];
 
-// A corner moved by as many steps along each axis.
+// A corner moved by the same number of steps along each axis.
 fn moved(c: PartCorner, by: i8) -> PartCorner
     requires { Roomy (unsigned_abs by) (spot c) }
     ensures { spot result ≡ spot c +ᵛ record { x = by; y = by; z = by } }
@@ -62,6 +61,7 @@ fn widened(c: PartCorner, by: u8) -> Block
     ensures low { spot result.low ≡ spot c -ᵛ cube by }
     ensures high { spot result.high ≡ spot c +ᵛ cube by }
 {
+    // `by` is at most 5 where there is room.
     let by = by as i8;
     Block {
         low: moved(c, -by),
@@ -76,35 +76,24 @@ fn is_beyond(axis: Direction, c: PartCorner, by: u8) -> bool
     axis.product(Corner::from(c)) > 5 - i64::from(by)
 }
 
-// The slip for a part that has no room.
-fn too_far(part: u16) -> Refusal
-    ensures { result ≡ swelled_too_far part }
-{
-    Refusal {
-        reason: Reason::SwelledTooFar,
-        layer: Layer::Swell,
-        place: u32::from(part),
-    }
-}
-
 impl<B: PartBook> Swell<B> {
-    // Whether the part has room along an axis: its farthest corner tells.
-    fn has_room_along(&self, part: u16, axis: Direction) -> Result<(), Refusal>
+    // Refuses a part that has no room along an axis: its farthest corner tells.
+    fn check_room_along(&self, part: u16, axis: Direction) -> Result<(), Refusal>
         ensures { Cleared (Inside self.now.by (heading axis)) part (B.Meaning.meaning self.now.book part) result }
     {
         let c = self.book.farthest_along(part, axis)?;
         if is_beyond(axis, c, self.by) {
-            return Err(too_far(part));
+            return Err(Refusal::swelled_too_far(part));
         }
         Ok(())
     }
 
-    // Whether every corner has room on every side; else the part's own slip, or that it is swelled too far.
-    fn has_room(&self, part: u16) -> Result<(), Refusal>
+    // Refuses a part that has a corner without room on some side: with the part's own slip, or as swelled too far.
+    fn check_room(&self, part: u16) -> Result<(), Refusal>
         ensures { Cleared (Roomy self.now.by) part (B.Meaning.meaning self.now.book part) result }
     {
         for axis in AXES {
-            self.has_room_along(part, axis)?;
+            self.check_room_along(part, axis)?;
         }
         Ok(())
     }
@@ -120,13 +109,13 @@ impl<B: Meaning> Meaning for Swell<B> {
 
 impl<B: PartBook> PartBook for Swell<B> {
     fn farthest_along(&self, part: u16, direction: Direction) -> Result<PartCorner, Refusal> {
-        self.has_room(part)?;
+        self.check_room(part)?;
         let c = self.book.farthest_along(part, direction)?;
         Ok(widened(c, self.by).corner(Octant::towards(direction)))
     }
 
     fn corner(&self, part: u16, k: usize) -> Result<Option<PartCorner>, Refusal> {
-        self.has_room(part)?;
+        self.check_room(part)?;
         let octant = Octant::numbered(k);
         let below = self.book.corner(part, k / 8)?;
         Ok(below.map(|c| widened(c, self.by).corner(octant)))

@@ -6,5 +6,4 @@ pub mod measures;
 pub mod pose;
 pub mod posed;
 pub mod ranges;
-mod slip;
 pub mod turn;

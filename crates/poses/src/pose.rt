@@ -6,7 +6,8 @@ ghost use Rattle.exact.specs.Space.{at, Within};
 use crate::turn::Turn;
 use exact::point::Point;
 
-// The offset is within ±9 on each axis, and so is the offset plus the travel.
+// The offset is within ±9 on each axis, and so is the offset plus the travel. The numbers stay as they were given, by which a pose is named; the two
+// ends that they make are worked out where a corner is moved.
 #[derive(Clone, Copy)]
 pub struct Pose {
     pub turn: Turn,

@@ -6,7 +6,6 @@ ghost use Rattle.poses.specs.Poses.{PoseOf, farther};
 
 use crate::ends::Ends;
 use crate::pose::Pose;
-use crate::slip::OUT_OF_RANGE;
 use crate::turn::Turn;
 use exact::corner::{Corner, PartCorner};
 use exact::direction::Direction;
@@ -19,7 +18,7 @@ impl Pose {
         ensures { PoseOf turn offset travel result }
     {
         let turn = Turn::try_from(turn)?;
-        Ends::new(offset, travel).ok_or(OUT_OF_RANGE)?;
+        Ends::new(offset, travel).ok_or(Refusal::pose_out_of_range())?;
         Ok(Pose {
             turn,
             offset,

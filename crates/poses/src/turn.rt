@@ -3,7 +3,6 @@ ghost use Rattle.std.specs.Prelude.{◌≡◌};
 ghost use Rattle.exact.specs.Spots.{heading};
 ghost use Rattle.poses.specs.Poses.{Numbered, turned as turned_of, back as back_of};
 
-use crate::slip::OUT_OF_RANGE;
 use exact::direction::Direction;
 use parts::moves::Movable;
 use refusals::Refusal;
@@ -29,7 +28,7 @@ impl TryFrom<i64> for Turn {
             1 => Ok(Turn::Quarter),
             2 => Ok(Turn::Half),
             3 => Ok(Turn::ThreeQuarters),
-            _ => Err(OUT_OF_RANGE),
+            _ => Err(Refusal::pose_out_of_range()),
         }
     }
 }

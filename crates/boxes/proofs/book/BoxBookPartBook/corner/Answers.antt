@@ -13,8 +13,8 @@ use Rattle.boxes.proofs.book.BoxBookPartBook.corner.Goals as goal
 pub returns-in_err-ok_or : goal.returns-in_err-ok_or
 returns-in_err-ok_or c =
     let (s, is, from) = err_from_is_err_and c.from_residual.result c.from_residual.ensures.1 in
-    let (none, slip) = refused_or c.entry_of.result c.no_such_part.result c.in_err-ok_or.field-0.0 (sym c.ok_or.ensures.value ∙ c.in_err-ok_or.was) in
-    rw (is, from) (ap Err (slip ∙ c.no_such_part.ensures) ∙ sym (unlisted c.args.part c.args.k c.args.self.now.entries.now (sym c.entry_of.ensures ∙ ap option_copied none)))
+    let (none, slip) = refused_or c.entry_of.result c.part_missing-missing.result c.in_err-ok_or.field-0.0 (sym c.ok_or.ensures.value ∙ c.in_err-ok_or.was) in
+    rw (is, from) (ap Err (slip ∙ c.part_missing-missing.ensures) ∙ sym (unlisted c.args.part c.args.k c.args.self.now.entries.now (sym c.entry_of.ensures ∙ ap option_copied none)))
 
 pub returns : goal.returns
 returns c =
