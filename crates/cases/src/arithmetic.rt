@@ -1,5 +1,5 @@
 // Products, squares, lowest terms and the order of gaps, on examples and at the ends of their ranges.
-use crate::made::{along, corner, gap, over};
+use crate::made::{along, corner, gap, over, point};
 use exact::corner::Corner;
 use exact::direction::Direction;
 use exact::fraction::Fraction;
@@ -7,10 +7,6 @@ use exact::gap::Gap;
 use exact::lowest::gcd;
 use exact::point::Point;
 use std::test::Fail;
-
-fn point(x: i64, y: i64, z: i64) -> Point {
-    Point { x, y, z }
-}
 
 #[test]
 fn corners_reach_fourteen_steps(rt: HostRuntime) -> Result<(), Fail> {

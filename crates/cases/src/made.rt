@@ -1,4 +1,4 @@
-// Corners, directions, fractions and gaps for the tests, made from their numbers.
+// Points, corners, directions, fractions and gaps for the tests, made from their numbers.
 use exact::corner::Corner;
 use exact::direction::Direction;
 use exact::fraction::Fraction;
@@ -6,16 +6,20 @@ use exact::gap::Gap;
 use exact::point::Point;
 use std::test::Fail;
 
+pub(crate) fn point(x: i64, y: i64, z: i64) -> Point {
+    Point { x, y, z }
+}
+
 pub(crate) fn corner(x: i64, y: i64, z: i64) -> Result<Corner, Fail> {
-    Ok(Corner::try_from(Point { x, y, z })?)
+    Ok(Corner::try_from(point(x, y, z))?)
 }
 
 pub(crate) fn along(x: i64, y: i64, z: i64) -> Result<Direction, Fail> {
-    Ok(Direction::try_from(Point { x, y, z })?)
+    Ok(Direction::try_from(point(x, y, z))?)
 }
 
 pub(crate) fn over(x: i64, y: i64, z: i64, w: i64) -> Result<Fraction, Fail> {
-    Ok(Fraction::new(Point { x, y, z }, w).ok_or("a fraction over a number below 1")?)
+    Ok(Fraction::new(point(x, y, z), w).ok_or("a fraction over a number below 1")?)
 }
 
 pub(crate) fn gap(p: u64, q: u64) -> Result<Gap, Fail> {

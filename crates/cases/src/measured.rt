@@ -1,4 +1,4 @@
-// Measurements at a touch and a hair off it, of bodies with corners in a line or a plane, twice, alone, equal, or inside one another.
+// Measurements at a touch and a step off it, of bodies with corners in a line or a plane, twice, alone, equal, or inside one another.
 use exact::corner::Corner;
 use exact::point::Point;
 use nearest::corners::Corners;
@@ -8,8 +8,8 @@ use std::process::Abort;
 use std::test::Fail;
 
 fn measured(first: &[Corner], second: &[Corner]) -> Result<Measurement, Fail> {
-    let a = Corners::new(first).ok_or("a body has no corners")?;
-    let b = Corners::new(second).ok_or("a body has no corners")?;
+    let a = Corners::try_from(first)?;
+    let b = Corners::try_from(second)?;
     Ok(measure(&a, &b)?)
 }
 
@@ -219,7 +219,7 @@ fn witnesses_come_first_and_zeros_after(rt: HostRuntime) -> Result<(), Fail> {
 #[test]
 fn a_body_has_a_corner(rt: HostRuntime) -> Result<(), Fail> {
     let one = [at!(0, 0, 0)];
-    assert!(rt; Corners::new(&one).is_some());
-    assert!(rt; Corners::new(&one[0..0]).is_none());
+    assert!(rt; Corners::try_from(one.as_slice()).is_ok());
+    assert!(rt; Corners::try_from(&one[0..0]).is_err());
     Ok(())
 }

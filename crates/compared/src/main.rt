@@ -47,8 +47,8 @@ fn compared(rt: &(impl Print + AllocGlobal), line: &str) -> anyhow::Result<()> {
     let m = usize::try_from(number(&mut rest)?)?;
     let first = corners(heap, &mut rest, n)?;
     let second = corners(heap, &mut rest, m)?;
-    let a = Corners::new(first.as_slice()).context("a body has no corners")?;
-    let b = Corners::new(second.as_slice()).context("a body has no corners")?;
+    let a = Corners::try_from(first.as_slice())?;
+    let b = Corners::try_from(second.as_slice())?;
     match measure(&a, &b) {
         Ok(found) => {
             let Fraction { point, over: w } = found.difference;

@@ -1,7 +1,6 @@
 // Times the measurement: nanoseconds for one, over bodies of 4, 8, 16 and 50 corners. It is no test: with no argument it only says how to run it.
 #![tactic(auto)]
 
-use anyhow::Context;
 use exact::corner::Corner;
 use exact::point::Point;
 use nearest::corners::Corners;
@@ -40,15 +39,20 @@ fn cloud(heap: Global, count: usize, from: u64, middle: i64) -> anyhow::Result<V
     Ok(list)
 }
 
-// How many of the rounds found a gap: the answers are used, so that the work is done.
-fn rounds(heap: Global, count: usize, times: u64) -> anyhow::Result<u64> {
+// How many pairs of bodies are measured, and how often each.
+const PAIRS: u64 = 16;
+
+const TIMES: u64 = 20000;
+
+// How many of the measurements found a gap: the answers are used, so that the work is done.
+fn measured(heap: Global, count: usize) -> anyhow::Result<u64> {
     let mut apart = 0u64;
-    for k in 0..16u64 {
+    for k in 0..PAIRS {
         let first = cloud(heap, count, k.wrapping_mul(977).wrapping_add(1), -6)?;
         let second = cloud(heap, count, k.wrapping_mul(7919).wrapping_add(5), 6)?;
-        let a = Corners::new(first.as_slice()).context("a body has no corners")?;
-        let b = Corners::new(second.as_slice()).context("a body has no corners")?;
-        for _ in 0..times {
+        let a = Corners::try_from(first.as_slice())?;
+        let b = Corners::try_from(second.as_slice())?;
+        for _ in 0..TIMES {
             if measure(&a, &b).is_ok_and(|found| found.gap.p > 0) {
                 apart = apart.saturating_add(1);
             }
@@ -58,12 +62,12 @@ fn rounds(heap: Global, count: usize, times: u64) -> anyhow::Result<u64> {
 }
 
 fn timed(rt: &HostRuntime, count: usize) -> anyhow::Result<()> {
-    let times = 20000u64;
     let start = Instant::now(rt)?;
-    let apart = rounds(rt.alloc(), count, times)?;
+    let apart = measured(rt.alloc(), count)?;
     let spent = start.elapsed(rt)?;
-    let each = spent.as_nanos() / 320000;
-    println!(rt; "{count} corners: {each} ns a measurement, {apart} of 320000 apart")?;
+    let all = PAIRS * TIMES;
+    let each = spent.as_nanos() / u128::from(all);
+    println!(rt; "{count} corners: {each} ns a measurement, {apart} of {all} apart")?;
     Ok(())
 }
 

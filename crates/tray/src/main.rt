@@ -15,7 +15,7 @@ use nearest::measure::measure;
 use nearest::measurement::Measurement;
 use worked::worked_measurements;
 
-// The corner of a body that lies farthest along a direction, with its product.
+// Prints the corner of a body that lies farthest along a direction, with its product.
 fn print_farthest(rt: &impl Print, corners: &[Corner], along: Point) -> anyhow::Result<()> {
     let Ok(direction) = Direction::try_from(along) else {
         println!(rt; "  along {along}: beyond 2,000,000,000")?;
@@ -104,45 +104,44 @@ fn print_stopping_test(
 
 // Measures one list of corners against another, and prints the whole answer.
 fn print_gap(rt: &impl Print, first: &[Corner], second: &[Corner]) -> anyhow::Result<()> {
-    let a = Corners::new(first).context("a body has no corners")?;
-    let b = Corners::new(second).context("a body has no corners")?;
+    let a = Corners::try_from(first)?;
+    let b = Corners::try_from(second)?;
     match measure(&a, &b) {
         Ok(found) => {
             print_measurement(rt, &found)?;
             print_stopping_test(rt, &found, first, second)
         }
         Err(slip) => {
-            let number = u8::from(slip.reason);
-            println!(rt; "  refused by {number}")?;
+            println!(rt; "  {slip}")?;
             Ok(())
         }
     }
 }
 
+// Along the axes and aslant, up to the limit of a direction and beyond it.
+const DIRECTIONS: [Point; 6] = [
+    Point { x: 1, y: 0, z: 0 },
+    Point { x: 0, y: -1, z: 0 },
+    Point { x: -1, y: 2, z: 5 },
+    Point { x: 3, y: 0, z: -10 },
+    Point {
+        x: 2000000000,
+        y: -2000000000,
+        z: 2000000000,
+    },
+    Point {
+        x: 2000000001,
+        y: 0,
+        z: 0,
+    },
+];
+
+// The whole piece of work.
 fn run(rt: &impl Print) -> anyhow::Result<()> {
     println!(rt; "The slanted lid's farthest corner along each direction:")?;
-    print_farthest(rt, &SLANTED_LID, Point { x: 1, y: 0, z: 0 })?;
-    print_farthest(rt, &SLANTED_LID, Point { x: 0, y: -1, z: 0 })?;
-    print_farthest(rt, &SLANTED_LID, Point { x: -1, y: 2, z: 5 })?;
-    print_farthest(rt, &SLANTED_LID, Point { x: 3, y: 0, z: -10 })?;
-    print_farthest(
-        rt,
-        &SLANTED_LID,
-        Point {
-            x: 2000000000,
-            y: -2000000000,
-            z: 2000000000,
-        },
-    )?;
-    print_farthest(
-        rt,
-        &SLANTED_LID,
-        Point {
-            x: 2000000001,
-            y: 0,
-            z: 0,
-        },
-    )?;
+    for along in DIRECTIONS {
+        print_farthest(rt, &SLANTED_LID, along)?;
+    }
     println!(rt; "The slanted lid against a case with side feet:")?;
     print_gap(rt, &SLANTED_LID, &CASE_WITH_FEET)?;
     let rows = worked_measurements();
