@@ -1,5 +1,5 @@
 // What the search does with a carrier: measure it, compare it, and let it grow by a pair.
-ghost use Rattle.std.specs.Prelude.{◌≡◌, true, false, ◌≤◌, pos, ◌*ℤ◌, ◌≤ℤ◌, ◌<ℤ◌, unsigned_abs};
+ghost use Rattle.std.specs.Prelude.{◌≡◌, true, false, pos, ◌*ℤ◌, ◌≤ℤ◌, ◌<ℤ◌};
 ghost use Rattle.std.specs.List.{ContainsAt as Has};
 ghost use Rattle.integers.specs.Points.{dot as dotted};
 ghost use Rattle.convex.specs.Fractions.{SquareOf};
@@ -13,6 +13,7 @@ use crate::pair::Pair;
 use crate::simplex::{Edge, Simplex, Solid, Triangle};
 use crate::span::Span;
 use crate::vectors::Vector;
+use exact::gap::Gap;
 
 // A corner of the simplex.
 fn corner(s: Simplex) -> Vector
@@ -26,22 +27,25 @@ fn corner(s: Simplex) -> Vector
     }
 }
 
-// The square of the carried point is this over the extent: the product of the foot and any corner of the simplex.
-pub(crate) fn gap(c: Carrier) -> i64
-    ensures square { SquareOf (carried c) result c.extent }
-    ensures low { pos 0 ≤ℤ result }
-    ensures high { unsigned_abs result ≤ 17348050944 }
-{
-    c.foot.dot(corner(c.simplex))
+impl Carrier {
+    // The square of the carried point: the product of the foot and any corner of the simplex, over the extent.
+    pub(crate) fn gap(self) -> Gap
+        ensures square { SquareOf (carried self) (pos result.p) self.extent }
+        ensures over { pos result.q ≡ self.extent }
+    {
+        let square = self.foot.dot(corner(self.simplex));
+        Gap {
+            p: square as u64,
+            q: self.extent as u64,
+        }
+    }
 }
 
 // The shorter of two carried points, and the first where they are equally long.
 pub(crate) fn shorter(c: Carrier, d: Carrier) -> Carrier
     ensures { Lesser c d result }
 {
-    let k = gap(c);
-    let l = gap(d);
-    if l * c.extent < k * d.extent { d } else { c }
+    if d.gap() < c.gap() { d } else { c }
 }
 
 // Whether the difference of w lies on the near side of the carried point.
