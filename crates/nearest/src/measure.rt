@@ -58,6 +58,7 @@ fn witnesses(s: Simplex) -> [Witness; 4]
 fn report(found: Carrier) -> Measurement
     ensures { Told found result }
 {
+    let gap = found.gap().lowest();
     let difference = Fraction {
         point: Point::from(found.foot),
         over: found.extent,
@@ -65,7 +66,7 @@ fn report(found: Carrier) -> Measurement
     .lowest();
     Measurement {
         difference,
-        gap: found.gap().lowest(),
+        gap,
         witnesses: witnesses(found.simplex),
     }
 }

@@ -166,8 +166,7 @@ impl Span<4> for Solid {
 
     // The size of the volume.
     fn extent(self) -> i64 {
-        let v = volume(self.a, self.b, self.c, self.d);
-        if v < 0 { -v } else { v }
+        volume(self.a, self.b, self.c, self.d).abs()
     }
 
     fn simplex(self) -> Simplex {

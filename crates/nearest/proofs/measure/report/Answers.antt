@@ -14,6 +14,6 @@ returns c =
       fraction = subst (λ D. Reduced (D.x ∷ D.y ∷ D.z ∷ c.args.found.extent ∷ []) (terms c.lowest-difference.result)) c.from.ensures (subst (λ w. Reduced (c.from.result.x ∷ c.from.result.y ∷ c.from.result.z ∷ w ∷ []) (terms c.lowest-difference.result)) (extent-kept c.args.found) c.lowest-difference.ensures);
       gap = pos c.gap.result.p;
       square = c.gap.ensures.square;
-      ratio = subst (λ w. Reduced (pos c.gap.result.p ∷ w ∷ []) (parts c.lowest.result)) c.gap.ensures.over c.lowest.ensures;
+      ratio = subst (λ w. Reduced (pos c.gap.result.p ∷ w ∷ []) (parts c.lowest-gap.result)) c.gap.ensures.over c.lowest-gap.ensures;
       witnesses = c.witnesses.ensures;
     }
