@@ -9,7 +9,6 @@ ghost use Rattle.nearest.specs.Shapes.{Carried, ByFaces, Chosen};
 
 use crate::carrier::Carrier;
 use crate::simplex::Simplex;
-use crate::steps::shorter;
 use crate::vectors::Vector;
 
 // A simplex of N pairs. The foot is the sum of the differences by the weights, over their total, the extent.
@@ -63,7 +62,7 @@ pub(crate) fn or_face<const N: usize, F: Span<N>>(best: &mut Option<Carrier>, we
     }
     let next = face.nearest();
     match *best {
-        Some(found) => *best = Some(shorter(found, next)),
+        Some(found) => *best = Some(found.shorter(next)),
         None => *best = Some(next),
     }
 }
