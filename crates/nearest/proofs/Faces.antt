@@ -1,10 +1,10 @@
 -- The carrier of a simplex, from those of its faces.
-use Rattle.std.proofs.Common.{◌≡◌, ℕ, zero, suc, ◌*◌, ◌<◌, ◌≤◌, true, false, ◌⊎◌, List, [], ◌∷◌, length, get_or, ℤ, pos, ◌*ℤ◌, ◌≤ℤ◌, ◌<ℤ◌, Option, Some, None, sym, refl, ap, ◌∙◌, subst, subst₂, inl, inr, arith, w64, SFits, to_z, of_z}
+use Rattle.std.proofs.Common.{◌≡◌, ℕ, zero, suc, ◌*◌, ◌<◌, ◌≤◌, true, false, ◌⊎◌, List, [], ◌∷◌, length, get_or, ℤ, pos, ◌*ℤ◌, ◌≤ℤ◌, ◌<ℤ◌, Option, Some, None, MatchOption, sym, refl, ap, ◌∙◌, subst, subst₂, inl, inr, arith, w64, to_z, of_z}
 use Rattle.std.proofs.Math.Nat.{eq-or-lt_of_le}
 use lib.Signed.{lt_z, ≤ℤ_refl}
 use Rattle.std.specs.List.{ContainsAt as Has, AllByRecursion}
 use Rattle.std.proofs.ByRecursion.{All-weaker, all-has, all_has_itself, All-from_get_or}
-use Rattle.std.proofs.lemmas.Int.{ints, to_z-of_z}
+use Rattle.std.proofs.lemmas.Int.{ints}
 use Rattle.std.proofs.lemmas.Map.Keys.{ge_from_not_lt}
 use Rattle.std.specs.declared.cmp.Ordering.{Ordering}
 use Rattle.std.specs.declared.cmp.Ordering.TheVariants.{Less, Equal, Greater}
@@ -150,6 +150,11 @@ chosen_next {vs} c d r t l = record { from = which l.from; older = l.left; newer
     which (inl e) = inl e
     which (inr e) = inr (subst (λ x. Carried vs x) (sym e) t)
 
+-- one more after the best so far, if any
+pub chosen_either : {vs : List Pair} {k : ℤ} (b : Option Carrier) (d r : Carrier) (P : Carrier → Type 0) → k ≤ℤ pos 0 → Carried vs d → ((x : Carrier) → P x → Lesser x d r) → MatchOption b (r ≡ d) P → Chosen k vs b (Some r)
+chosen_either {vs} None d r P o t l e = (o, subst (λ x. Carried vs x) (sym e) t)
+chosen_either (Some c) d r P o t l p = chosen_next c d r t (l c p)
+
 pub chosen_old : (vs : List Pair) (k : ℤ) (b : Option Carrier) → pos 0 <ℤ k → Chosen k vs b b
 chosen_old vs k None h = h
 chosen_old vs k (Some c) h = record { from = inl refl; older = ≤ℤ_refl _; newer = λ o y m. absurd (not_small h o) }
@@ -166,14 +171,11 @@ module _ (vs : List Pair) (k : ℕ) {ws : List ℤ} (e : weights (betweens vs) �
   chosen_by us b r h = subst (λ t. Chosen t us b r) tested_is h
 
 -- ---- what the tests say of numbers
-pub more : (x : ℤ) → SFits w64 x → lt_z (pos 0) (to_z w64 (of_z w64 x)) ≡ true → pos 0 <ℤ x
-more x f h = high x (rw (to_z-of_z w64 x f) at h)
-  where
-    high : (x : ℤ) → lt_z (pos 0) x ≡ true → pos 0 <ℤ x
-    high x h = omega (arith, ints)
-
 pub not_less_≤ : (x y : ℤ) → lt_z x y ≡ false → y ≤ℤ x
 not_less_≤ x y h = omega (arith, ints)
+
+pub not_more : (x y : ℤ) → y ≡ x → lt_z (pos 0) y ≡ false → x ≤ℤ pos 0
+not_more x y e h = subst (λ t. t ≤ℤ pos 0) e (not_less_≤ (pos 0) y h)
 
 pub less : (x y : ℤ) → lt_z x y ≡ true → x <ℤ y
 less x y h = omega (arith, ints)

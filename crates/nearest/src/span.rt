@@ -61,8 +61,5 @@ pub(crate) fn or_face<const N: usize, F: Span<N>>(best: &mut Option<Carrier>, we
         return;
     }
     let next = face.nearest();
-    match *best {
-        Some(found) => *best = Some(found.shorter(next)),
-        None => *best = Some(next),
-    }
+    *best = Some(best.map_or(next, |found| found.shorter(next)));
 }
