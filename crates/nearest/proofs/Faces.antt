@@ -1,10 +1,15 @@
 -- The carrier of a simplex, from those of its faces.
-use Rattle.std.proofs.Common.{◌≡◌, ℕ, zero, suc, ◌<◌, true, false, ◌⊎◌, List, [], ◌∷◌, length, get_or, ℤ, pos, ◌*ℤ◌, ◌≤ℤ◌, ◌<ℤ◌, Option, Some, None, sym, refl, ap, ◌∙◌, subst, subst₂, inl, inr, arith, w64, SFits, to_z, of_z}
+use Rattle.std.proofs.Common.{◌≡◌, ℕ, zero, suc, ◌*◌, ◌<◌, ◌≤◌, true, false, ◌⊎◌, List, [], ◌∷◌, length, get_or, ℤ, pos, ◌*ℤ◌, ◌≤ℤ◌, ◌<ℤ◌, Option, Some, None, MatchOption, sym, refl, ap, ◌∙◌, subst, subst₂, inl, inr, arith, w64, to_z, of_z}
 use Rattle.std.proofs.Math.Nat.{eq-or-lt_of_le}
 use lib.Signed.{lt_z, ≤ℤ_refl}
 use Rattle.std.specs.List.{ContainsAt as Has, AllByRecursion}
 use Rattle.std.proofs.ByRecursion.{All-weaker, all-has, all_has_itself, All-from_get_or}
-use Rattle.std.proofs.lemmas.Int.{ints, to_z-of_z}
+use Rattle.std.proofs.lemmas.Int.{ints}
+use Rattle.std.proofs.lemmas.Map.Keys.{ge_from_not_lt}
+use Rattle.std.specs.declared.cmp.Ordering.{Ordering}
+use Rattle.std.specs.declared.cmp.Ordering.TheVariants.{Less, Equal, Greater}
+use Rattle.std.specs.Ordering.{is_lt, nat_cmp, MatchOrdering}
+use Rattle.std.specs.Cmp.{ranks}
 use Rattle.integers.specs.Points.{Pt, dot}
 use Rattle.convex.specs.Fractions.{Frac, NoLonger, SquareOf}
 use Rattle.convex.specs.Means.{Mean}
@@ -17,6 +22,8 @@ use Rattle.convex.proofs.Carriers as carriers
 use Rattle.convex.proofs.Carriers.{Best, carries_itself}
 use Rattle.nearest.specs.declared.pair.Pair.{Pair}
 use Rattle.nearest.specs.declared.carrier.Carrier.{Carrier}
+use Rattle.exact.specs.declared.gap.Gap.{Gap}
+use Rattle.exact.specs.Terms.{crossed}
 use Rattle.nearest.specs.Pairs.{between, betweens}
 use Rattle.nearest.specs.Simplices.{pairs, points}
 use Rattle.nearest.specs.Shapes.{carried, Carried, ByFaces, Lesser, Better, Chosen}
@@ -112,6 +119,29 @@ module _ (c : Carrier) (y : Pt) (r : ℤ) (h : Has (points c.simplex) y) (e : r 
 pub by_squares : (c d : Carrier) (k l : ℤ) → SquareOf (carried c) k c.extent → SquareOf (carried d) l d.extent → (l *ℤ c.extent) ≤ℤ (k *ℤ d.extent) → NoLonger (carried d) (carried c)
 by_squares c d k l e f h = no_longer_by_squares (carried d) (carried c) l d.extent k c.extent (positive d) (positive c) f e h
 
+-- and by the gaps: products that compare as lower are no larger
+below_at : (a b : ℕ) (o : Ordering) → MatchOrdering o (a < b) (a ≡ b) (b < a) → is_lt o ≡ true → a ≤ b
+below_at a b Less l h = omega (arith, l)
+below_at a b Equal e h = absurd (cc)
+below_at a b Greater l h = absurd (cc)
+
+le_from_lt : (a b : ℕ) → is_lt (nat_cmp a b) ≡ true → a ≤ b
+le_from_lt a b = below_at a b (nat_cmp a b) (ranks a b)
+
+pos_≤ : (a b : ℕ) → a ≤ b → pos a ≤ℤ pos b
+pos_≤ a b l = omega (arith, ints)
+
+-- of two carriers the one with the lower gap is no longer than the other, and the first where it is not lower
+module _ (c d : Carrier) (g h : Gap) (e : SquareOf (carried c) (pos g.p) c.extent) (f : SquareOf (carried d) (pos h.p) d.extent) (u : pos g.q ≡ c.extent) (v : pos h.q ≡ d.extent) where
+  by_products : h.p * g.q ≤ g.p * h.q → NoLonger (carried d) (carried c)
+  by_products l = by_squares c d (pos g.p) (pos h.p) e f (subst₂ (λ x y. (pos h.p *ℤ x) ≤ℤ (pos g.p *ℤ y)) u v (pos_≤ _ _ l))
+
+  pub lower_gap : is_lt (crossed h g) ≡ true → NoLonger (carried d) (carried c)
+  lower_gap l = by_products (le_from_lt (h.p * g.q) (g.p * h.q) l)
+
+  pub other_gap : is_lt (crossed g h) ≡ false → NoLonger (carried d) (carried c)
+  other_gap l = by_products (ge_from_not_lt (g.p * h.q) (h.p * g.q) l)
+
 -- the best so far or one more, and the best so far where its weight is positive
 pub chosen_next : {vs : List Pair} {k : ℤ} (c d r : Carrier) → Carried vs d → Lesser c d r → Better k vs c r
 chosen_next {vs} c d r t l = record { from = which l.from; older = l.left; newer = λ _ y m. no_longer_trans (carried r) (carried d) y (positive d) l.right (least t y m) }
@@ -119,6 +149,11 @@ chosen_next {vs} c d r t l = record { from = which l.from; older = l.left; newer
     which : (r ≡ c) ⊎ (r ≡ d) → (r ≡ c) ⊎ Carried vs r
     which (inl e) = inl e
     which (inr e) = inr (subst (λ x. Carried vs x) (sym e) t)
+
+-- one more after the best so far, if any
+pub chosen_either : {vs : List Pair} {k : ℤ} (b : Option Carrier) (d r : Carrier) (P : Carrier → Type 0) → k ≤ℤ pos 0 → Carried vs d → ((x : Carrier) → P x → Lesser x d r) → MatchOption b (r ≡ d) P → Chosen k vs b (Some r)
+chosen_either {vs} None d r P o t l e = (o, subst (λ x. Carried vs x) (sym e) t)
+chosen_either (Some c) d r P o t l p = chosen_next c d r t (l c p)
 
 pub chosen_old : (vs : List Pair) (k : ℤ) (b : Option Carrier) → pos 0 <ℤ k → Chosen k vs b b
 chosen_old vs k None h = h
@@ -136,17 +171,11 @@ module _ (vs : List Pair) (k : ℕ) {ws : List ℤ} (e : weights (betweens vs) �
   chosen_by us b r h = subst (λ t. Chosen t us b r) tested_is h
 
 -- ---- what the tests say of numbers
-pub more : (x : ℤ) → SFits w64 x → lt_z (pos 0) (to_z w64 (of_z w64 x)) ≡ true → pos 0 <ℤ x
-more x f h = high x (rw (to_z-of_z w64 x f) at h)
-  where
-    high : (x : ℤ) → lt_z (pos 0) x ≡ true → pos 0 <ℤ x
-    high x h = omega (arith, ints)
-
-pub less_≤ : (x y : ℤ) → lt_z x y ≡ true → x ≤ℤ y
-less_≤ x y h = omega (arith, ints)
-
 pub not_less_≤ : (x y : ℤ) → lt_z x y ≡ false → y ≤ℤ x
 not_less_≤ x y h = omega (arith, ints)
+
+pub not_more : (x y : ℤ) → y ≡ x → lt_z (pos 0) y ≡ false → x ≤ℤ pos 0
+not_more x y e h = subst (λ t. t ≤ℤ pos 0) e (not_less_≤ (pos 0) y h)
 
 pub less : (x y : ℤ) → lt_z x y ≡ true → x <ℤ y
 less x y h = omega (arith, ints)

@@ -1,5 +1,5 @@
 -- The sign of the volume in the weights of four points.
-use Rattle.std.proofs.Common.{◌≡◌, true, false, [], ◌∷◌, ℤ, pos, negsuc, ◌-ℤ◌, ◌*ℤ◌, neg_ℤ, nat_abs, refl, ap, ◌∙◌, arith}
+use Rattle.std.proofs.Common.{◌≡◌, true, false, [], ◌∷◌, ℤ, pos, negsuc, ◌-ℤ◌, ◌*ℤ◌, neg_ℤ, refl, ap, ◌∙◌, arith}
 use lib.Signed.{lt_z}
 use Rattle.std.proofs.lemmas.Int.{ints}
 use Rattle.integers.proofs.Solver.{var, con, neg, ◌⊗◌, ◌⊖◌, solve}
@@ -36,7 +36,3 @@ once s e x = ap (λ t. t *ℤ x) e ∙ solve (x ∷ []) (con (pos 1) ⊗ var 0) 
 
 pub neg_once : (s : ℤ) → s ≡ pos 1 → (x : ℤ) → neg_ℤ (s *ℤ x) ≡ pos 0 -ℤ x
 neg_once s e x = ap (λ t. neg_ℤ (t *ℤ x)) e ∙ solve (x ∷ []) (neg (con (pos 1) ⊗ var 0)) (con (pos 0) ⊖ var 0) refl
-
--- the size of the volume
-pub minus_abs : (v : ℤ) → lt_z v (pos 0) ≡ true → pos 0 -ℤ v ≡ pos (nat_abs v)
-minus_abs v h = omega (arith, ints)

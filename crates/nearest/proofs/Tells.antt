@@ -34,7 +34,7 @@ use Rattle.nearest.proofs.Pairs.{length-betweens, independent, carried_is, posit
 
 -- ---- the numbers
 -- a number that is not negative, cast to an unsigned one
-pub cast_fits : (x y : ℤ) → x ≡ y → pos 0 ≤ℤ y → nat_abs y ≤ 66382848 → T (non_neg x) × Fits w64 (nat_abs x)
+pub cast_fits : (x y : ℤ) → x ≡ y → pos 0 ≤ℤ y → nat_abs y ≤ 17348050944 → T (non_neg x) × Fits w64 (nat_abs x)
 cast_fits (pos n) y e p l = (tt, omega (arith, ints))
 cast_fits (negsuc n) y e p l = absurd (omega (arith, ints))
 

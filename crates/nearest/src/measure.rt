@@ -11,10 +11,8 @@ use crate::measurement::{Measurement, Witness};
 use crate::rounds::Bodies;
 use crate::simplex::Simplex;
 use crate::span::Span;
-use crate::steps::gap;
 use exact::corner::Corner;
 use exact::fraction::Fraction;
-use exact::gap::Gap;
 use exact::point::Point;
 use refusals::Refusal;
 
@@ -60,12 +58,7 @@ fn witnesses(s: Simplex) -> [Witness; 4]
 fn report(found: Carrier) -> Measurement
     ensures { Told found result }
 {
-    let square = gap(found);
-    let ratio = Gap {
-        p: square as u64,
-        q: found.extent as u64,
-    }
-    .lowest();
+    let gap = found.gap().lowest();
     let difference = Fraction {
         point: Point::from(found.foot),
         over: found.extent,
@@ -73,7 +66,7 @@ fn report(found: Carrier) -> Measurement
     .lowest();
     Measurement {
         difference,
-        gap: ratio,
+        gap,
         witnesses: witnesses(found.simplex),
     }
 }

@@ -8,7 +8,6 @@ use crate::body::Body;
 use crate::carrier::Carrier;
 use crate::pair::Pair;
 use crate::span::Span;
-use crate::steps::grown;
 use crate::vectors::Vector;
 use exact::direction::Direction;
 use exact::point::Point;
@@ -47,7 +46,7 @@ impl<F: Body, G: Body> Bodies<'_, F, G> {
         let mut near = from.nearest();
         while near.foot != Vector::ZERO {
             let w = self.probe(near.foot)?;
-            let Some(next) = grown(near, w) else {
+            let Some(next) = near.grown(w) else {
                 return Ok(near);
             };
             near = next;

@@ -1,4 +1,5 @@
 // The simplices of a search: one to four pairs of corners whose differences are affinely independent.
+// They are a type each, not one with a const parameter N: its faces would have N - 1 pairs, and Rattle computes no const argument.
 ghost use Rattle.std.specs.Prelude.{[], ◌∷◌};
 ghost use Rattle.convex.specs.Simplices.{Independent};
 ghost use Rattle.nearest.specs.Pairs.{betweens};

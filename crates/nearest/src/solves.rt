@@ -1,4 +1,6 @@
-// The foot of the perpendicular from the origin to the line, plane or space through two to four corner differences: weights, sum and total.
+// The point of the line, plane or space through one to four corner differences that is nearest to the origin: its weights, foot and extent.
+// The extents, and the foot of a triangle and of a solid, are closed forms of the sums by the weights: as a sum the foot of a triangle would
+// have a bound three times as large, within which its square does not fit 64 bits.
 ghost use Rattle.std.specs.Prelude.{◌≡◌, [], ◌∷◌};
 ghost use Rattle.integers.specs.Points.{det};
 ghost use Rattle.convex.specs.Simplices.{normal as normal_of, volume as volume_of};
@@ -38,7 +40,7 @@ fn volume(a: Pair, b: Pair, c: Pair, d: Pair) -> i64
     normal(a, b, c).dot(d.difference()) - determinant(a, b, c)
 }
 
-// A single pair is its own foot.
+// The foot of a single pair is its difference.
 impl Span<1> for Pair {
     ghost pairs = { λ a. a ∷ [] };
 
@@ -166,8 +168,7 @@ impl Span<4> for Solid {
 
     // The size of the volume.
     fn extent(self) -> i64 {
-        let v = volume(self.a, self.b, self.c, self.d);
-        if v < 0 { -v } else { v }
+        volume(self.a, self.b, self.c, self.d).abs()
     }
 
     fn simplex(self) -> Simplex {

@@ -1,4 +1,4 @@
-// The nearest point of a simplex: its foot where all weights are positive, and else the best of its faces across a weight that is not.
+// The nearest point of a simplex: what its foot carries where all weights are positive, and else the best of its faces across a weight that is not.
 ghost use Rattle.std.specs.Prelude.{◌≡◌, List};
 ghost use Rattle.convex.specs.Simplices.{weights as weights_of, foot as foot_of, extent as extent_of};
 ghost use Rattle.nearest.specs.declared.pair.Pair.{Pair};
@@ -9,10 +9,9 @@ ghost use Rattle.nearest.specs.Shapes.{Carried, ByFaces, Chosen};
 
 use crate::carrier::Carrier;
 use crate::simplex::Simplex;
-use crate::steps::shorter;
 use crate::vectors::Vector;
 
-// A simplex of N pairs. The foot is the sum of the differences by the weights, over their total, the extent.
+// A simplex of N pairs. Its foot is the sum of the differences by the weights, and carries a point over the extent, their total.
 pub(crate) trait Span<const N: usize>: Copy {
     // Its pairs.
     ghost pairs: { Self → List Pair };
@@ -29,7 +28,7 @@ pub(crate) trait Span<const N: usize>: Copy {
     fn extent(self) -> i64
         ensures { result ≡ extent_of (betweens (pairs self)) };
 
-    // The same as one of all simplices.
+    // The same as one of all simplices. As Into<Simplex> it would take four more impls, and a law here that each keeps the pairs.
     fn simplex(self) -> Simplex
         ensures { pairs_of result ≡ pairs self };
 
@@ -62,8 +61,5 @@ pub(crate) fn or_face<const N: usize, F: Span<N>>(best: &mut Option<Carrier>, we
         return;
     }
     let next = face.nearest();
-    match *best {
-        Some(found) => *best = Some(shorter(found, next)),
-        None => *best = Some(next),
-    }
+    *best = Some(best.map_or(next, |found| found.shorter(next)));
 }

@@ -1,5 +1,5 @@
 // What the search does with a carrier: measure it, compare it, and let it grow by a pair.
-ghost use Rattle.std.specs.Prelude.{◌≡◌, true, false, ◌≤◌, pos, ◌*ℤ◌, ◌≤ℤ◌, ◌<ℤ◌, unsigned_abs};
+ghost use Rattle.std.specs.Prelude.{◌≡◌, pos, ◌*ℤ◌, int_lt};
 ghost use Rattle.std.specs.List.{ContainsAt as Has};
 ghost use Rattle.integers.specs.Points.{dot as dotted};
 ghost use Rattle.convex.specs.Fractions.{SquareOf};
@@ -13,67 +13,76 @@ use crate::pair::Pair;
 use crate::simplex::{Edge, Simplex, Solid, Triangle};
 use crate::span::Span;
 use crate::vectors::Vector;
+use exact::gap::Gap;
 
-// A corner of the simplex.
-fn corner(s: Simplex) -> Vector
-    ensures { Has (points s) (to result) }
-{
-    match s {
-        Simplex::One(a) => a.difference(),
-        Simplex::Two(s) => s.a.difference(),
-        Simplex::Three(s) => s.a.difference(),
-        Simplex::Four(s) => s.a.difference(),
+impl Simplex {
+    // A corner of the simplex.
+    fn corner(self) -> Vector
+        ensures { Has (points self) (to result) }
+    {
+        match self {
+            Simplex::One(a) => a.difference(),
+            Simplex::Two(s) => s.a.difference(),
+            Simplex::Three(s) => s.a.difference(),
+            Simplex::Four(s) => s.a.difference(),
+        }
     }
 }
 
-// The square of the carried point is this over the extent: the product of the foot and any corner of the simplex.
-pub(crate) fn gap(c: Carrier) -> i64
-    ensures square { SquareOf (carried c) result c.extent }
-    ensures low { pos 0 ≤ℤ result }
-    ensures high { unsigned_abs result ≤ 17348050944 }
-{
-    c.foot.dot(corner(c.simplex))
-}
-
-// The shorter of two carried points, and the first where they are equally long.
-pub(crate) fn shorter(c: Carrier, d: Carrier) -> Carrier
-    ensures { Lesser c d result }
-{
-    let k = gap(c);
-    let l = gap(d);
-    if l * c.extent < k * d.extent { d } else { c }
-}
-
-// Whether the difference of w lies on the near side of the carried point.
-fn nearer(c: Carrier, w: Pair) -> bool
-    ensures yes { result ≡ true → (c.extent *ℤ dotted (to c.foot) (between w)) <ℤ dotted (to c.foot) (to c.foot) }
-    ensures no { result ≡ false → dotted (to c.foot) (to c.foot) ≤ℤ (c.extent *ℤ dotted (to c.foot) (between w)) }
-{
-    c.extent * c.foot.dot(w.difference()) < c.foot.dot(c.foot)
-}
-
-// The nearest point of the simplex with one more pair, or nothing where the difference of the pair is not on the near side.
-pub(crate) fn grown(c: Carrier, w: Pair) -> Option<Carrier>
-    ensures { Grown c w result }
-{
-    if !nearer(c, w) {
-        return None;
+impl Carrier {
+    // The square of the carried point: the product of the foot and any corner of the simplex, over the extent.
+    pub(crate) fn gap(self) -> Gap
+        ensures square { SquareOf (carried self) (pos result.p) self.extent }
+        ensures over { pos result.q ≡ self.extent }
+    {
+        let square = self.foot.dot(self.simplex.corner());
+        Gap {
+            p: square as u64,
+            q: self.extent as u64,
+        }
     }
-    Some(match c.simplex {
-        Simplex::One(a) => Edge { a, b: w }.nearest(),
-        Simplex::Two(s) => Triangle {
-            a: s.a,
-            b: s.b,
-            c: w,
+
+    // The shorter of two carried points, and this one where they are equally long.
+    pub(crate) fn shorter(self, other: Carrier) -> Carrier
+        ensures { Lesser self other result }
+    {
+        if other.gap() < self.gap() {
+            other
+        } else {
+            self
         }
-        .nearest(),
-        Simplex::Three(s) => Solid {
-            a: s.a,
-            b: s.b,
-            c: s.c,
-            d: w,
+    }
+
+    // Whether the difference of w lies on the near side of the carried point.
+    fn nearer(self, w: Pair) -> bool
+        ensures { result ≡ int_lt (self.extent *ℤ dotted (to self.foot) (between w)) (dotted (to self.foot) (to self.foot)) }
+    {
+        self.extent * self.foot.dot(w.difference()) < self.foot.dot(self.foot)
+    }
+
+    // The nearest point of the simplex with one more pair, or nothing where the difference of the pair is not on the near side.
+    pub(crate) fn grown(self, w: Pair) -> Option<Carrier>
+        ensures { Grown self w result }
+    {
+        if !self.nearer(w) {
+            return None;
         }
-        .nearest(),
-        Simplex::Four(_) => unreachable!(),
-    })
+        Some(match self.simplex {
+            Simplex::One(a) => Edge { a, b: w }.nearest(),
+            Simplex::Two(s) => Triangle {
+                a: s.a,
+                b: s.b,
+                c: w,
+            }
+            .nearest(),
+            Simplex::Three(s) => Solid {
+                a: s.a,
+                b: s.b,
+                c: s.c,
+                d: w,
+            }
+            .nearest(),
+            Simplex::Four(_) => unreachable!(),
+        })
+    }
 }

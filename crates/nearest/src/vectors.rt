@@ -11,7 +11,8 @@ use exact::corner::Corner;
 use exact::point::Point;
 use std::ops::{Add, Mul, Neg, Sub};
 
-// The way from the origin to a point.
+// The way from the origin to a point. It stands beside exact's Point since its operators require bounds, and a public call of this project
+// requires nothing.
 #[derive(Clone, Copy, PartialEq, Eq)]
 pub(crate) struct Vector {
     pub(crate) x: i64,

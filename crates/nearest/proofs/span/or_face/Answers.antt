@@ -1,7 +1,7 @@
-use Rattle.std.proofs.Common.{Some, sym, subst}
-use Rattle.nearest.specs.Shapes.{Chosen}
-use Rattle.nearest.proofs.Faces.{chosen_next}
+use Rattle.std.proofs.Common.{rules}
+use Rattle.integers.proofs.Overflow.{passed}
+use Rattle.nearest.proofs.Faces.{chosen_either, not_more}
 use Rattle.nearest.proofs.span.or_face.Goals as goal
 
-pub returns-in-Some : goal.returns-in-Some
-returns-in-Some g c = subst (λ b. Chosen c.args.weight (g.F.Span.pairs c.args.face) b (Some c.shorter.result)) (sym c.in-Some.is) (chosen_next c.in-Some.found c.nearest-next.result c.shorter.result c.nearest-next.ensures c.shorter.ensures)
+pub returns : goal.returns
+returns g c = chosen_either c.args.best.now c.nearest-next.result c.map_or.result _ (not_more _ _ (passed c.args.weight c.ranges.weight.sfits) c.if-weight-gt0.false) c.nearest-next.ensures (λ x p. search rules) c.map_or.ensures
