@@ -1,4 +1,4 @@
-// Making corners and directions from points, and their sums, products and squares.
+// Corners and directions from points, and back; their sums, products and squares.
 ghost use Rattle.std.specs.Prelude.{◌≡◌, MatchBool, min};
 ghost use Rattle.integers.specs.Points.{dot, ◌+ᵛ◌};
 ghost use Rattle.exact.specs.Space.{at, Within};

@@ -36,6 +36,7 @@ impl fmt::Display for Gap {
     }
 }
 
+// The error of a corner out of reach.
 impl fmt::Display for TooFar {
     ghost output = { λ e. Some (too_far_text e) };
 

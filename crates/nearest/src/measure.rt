@@ -16,7 +16,7 @@ use exact::fraction::Fraction;
 use exact::point::Point;
 use refusals::Refusal;
 
-// No witness: both corners at the origin, and the weight 0. As a constant its corners would be proved to be near anew at each use.
+// No witness: both corners at the origin, and the weight 0. It is no constant, since the contract of a function can say that it is the blank of the specs.
 fn blank() -> Witness
     ensures { result ≡ blank_of }
 {

@@ -22,6 +22,7 @@ pub trait Movable: Copy {
         ensures { numbers result ≡ quartered (numbers self) };
 }
 
+// The two impls are alike but for the width of their numbers: a corner is taken apart and made anew in bytes, a direction in 64 bits.
 impl Movable for PartCorner {
     ghost numbers = { λ c. spot c };
 

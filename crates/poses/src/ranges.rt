@@ -34,7 +34,7 @@ impl Pose {
         let ends = Ends::new(self.offset, self.travel).unwrap();
         let start = corner + ends.start;
         let end = corner + ends.end;
-        // `max_by_key` would hide that the start is taken where the two products are equal.
+        // `max_by_key(end, start, ..)` would hide in the order of its arguments that the start is taken where the two products are equal.
         if direction.product(end) > direction.product(start) {
             end
         } else {
