@@ -32,7 +32,8 @@ pub(crate) trait Span<const N: usize>: Copy {
     fn simplex(self) -> Simplex
         ensures { pairs_of result ≡ pairs self };
 
-    // The best of the faces across a weight that is not positive, or nothing where all are positive.
+    // The best of the faces across a weight that is not positive, or nothing where all are positive. Each shape names its faces to or_face: one
+    // loop over the weights zipped with the faces was proved, and each measurement took 7 to 22 percent longer.
     fn by_faces(self) -> Option<Carrier>
         ensures { ByFaces (pairs self) result };
 
