@@ -1,7 +1,7 @@
 -- The carrier of a simplex, from those of its faces.
 use Rattle.std.proofs.Common.{◌≡◌, ℕ, zero, suc, ◌*◌, ◌<◌, ◌≤◌, true, false, ◌⊎◌, List, [], ◌∷◌, length, get_or, ℤ, pos, ◌*ℤ◌, ◌≤ℤ◌, ◌<ℤ◌, Option, Some, None, MatchOption, sym, refl, ap, ◌∙◌, subst, subst₂, inl, inr, arith, w64, to_z, of_z}
 use Rattle.std.proofs.Math.Nat.{eq-or-lt_of_le}
-use lib.Signed.{lt_z, ≤ℤ_refl}
+use lib.Signed.{lt_z}
 use Rattle.std.specs.List.{ContainsAt as Has, AllByRecursion}
 use Rattle.std.proofs.ByRecursion.{All-weaker, all-has, all_has_itself, All-from_get_or}
 use Rattle.std.proofs.lemmas.Int.{ints}
@@ -154,10 +154,6 @@ chosen_next {vs} c d r t l = record { from = which l.from; older = l.left; newer
 pub chosen_either : {vs : List Pair} {k : ℤ} (b : Option Carrier) (d r : Carrier) (P : Carrier → Type 0) → k ≤ℤ pos 0 → Carried vs d → ((x : Carrier) → P x → Lesser x d r) → MatchOption b (r ≡ d) P → Chosen k vs b (Some r)
 chosen_either {vs} None d r P o t l e = (o, subst (λ x. Carried vs x) (sym e) t)
 chosen_either (Some c) d r P o t l p = chosen_next c d r t (l c p)
-
-pub chosen_old : (vs : List Pair) (k : ℤ) (b : Option Carrier) → pos 0 <ℤ k → Chosen k vs b b
-chosen_old vs k None h = h
-chosen_old vs k (Some c) h = record { from = inl refl; older = ≤ℤ_refl _; newer = λ o y m. absurd (not_small h o) }
 
 -- ---- what the tests say of the weights
 module _ (vs : List Pair) (k : ℕ) {ws : List ℤ} (e : weights (betweens vs) ≡ ws) where
