@@ -10,6 +10,7 @@ use crate::gap::Gap;
 use crate::point::Point;
 use std::cmp::Ordering;
 
+// Neither maker below is a conversion: each takes two numbers, and answers nothing where one is out of bounds.
 impl Fraction {
     // The point over a number, or nothing where the number is below 1.
     pub fn new(point: Point, over: i64) -> Option<Fraction>

@@ -23,6 +23,7 @@ fn divided(x: i64, by: u64) -> i64
     requires { (0 < by) × ((by < 2 ^ 63) × (Divides by (unsigned_abs x))) }
     ensures { x ≡ pos by *ℤ result }
 {
+    // `by` is below 2 ^ 63 by the clause: `i64::try_from` would test it once more.
     x / by as i64
 }
 

@@ -35,6 +35,7 @@ impl Carrier {
         ensures square { SquareOf (carried self) (pos result.p) self.extent }
         ensures over { pos result.q ≡ self.extent }
     {
+        // Neither number is negative, by the fields of the carrier: `u64::try_from` would test it once more.
         let square = self.foot.dot(self.simplex.corner());
         Gap {
             p: square as u64,

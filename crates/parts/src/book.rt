@@ -26,7 +26,7 @@ pub trait Meaning {
 
 // A book of parts, asked by part number. No call changes anything.
 pub trait PartBook: Meaning {
-    // A corner whose product with the direction is largest; among equals the choice is free.
+    // A corner whose product with the direction is largest; among equals the choice is free. Whatever is promised of a part is said of its meaning.
     fn farthest_along(&self, part: u16, direction: Direction) -> Result<PartCorner, Refusal>
         ensures { Found spot (Self.Meaning.meaning self.now part) (heading direction) result };
 

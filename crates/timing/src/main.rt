@@ -17,6 +17,7 @@ struct Noise(u64);
 impl Noise {
     // The next coordinate, within ±7.
     fn coordinate(&mut self) -> i64 {
+        // Below 15, so that nothing is lost.
         let x = (self.0.rotate_left(20) % 15) as i64 - 7;
         self.0 = self
             .0
