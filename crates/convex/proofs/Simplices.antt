@@ -1,5 +1,5 @@
 -- The foot of one to four points: its weights, and that it is equally far along from each of them.
-use Rattle.std.proofs.Common.{◌≡◌, ◌≤◌, List, [], ◌∷◌, length, get_or, ℤ, pos, negsuc, ◌+ℤ◌, ◌-ℤ◌, ◌*ℤ◌, nat_abs, ◌≤ℤ◌, ◌<ℤ◌, sym, refl, ◌∙◌, arith}
+use Rattle.std.proofs.Common.{◌≡◌, ◌≤◌, List, [], ◌∷◌, length, ℤ, pos, negsuc, ◌+ℤ◌, ◌-ℤ◌, ◌*ℤ◌, nat_abs, ◌≤ℤ◌, sym, refl, ◌∙◌, arith}
 use Rattle.std.specs.List.{ContainsAt as Has}
 use Rattle.std.proofs.ByRecursion.{all-has}
 use Rattle.std.proofs.lemmas.Int.{ints}
@@ -97,13 +97,6 @@ square-foot ys y i h = square_of_level (footing ys) (dot (foot ys) y) (level_at 
 -- and D·y is not negative
 pub gap≥ : (ys : List Pt) (y : Pt) → Independent ys → Has ys y → pos 0 ≤ℤ dot (foot ys) y
 gap≥ ys y i h = *ℤ_cancel≤ (extent ys) i.apart (rw (level_at ys y i h, solve (extent ys ∷ []) (var 0 ⊗ con (pos 0)) (con (pos 0)) refl) (dot_nonneg (foot ys)))
-
--- the two ends of an edge do not both lie beyond the foot
-pub not_both : (a b : Pt) → let ys = a ∷ b ∷ [] in pos 0 <ℤ extent ys → get_or (weights ys) 0 (pos 0) ≤ℤ pos 0 → get_or (weights ys) 1 (pos 0) ≤ℤ pos 0 → ⊥
-not_both a b h k l = none _ _ _ h (foot₂ a b).whole k l
-  where
-    none : (w k l : ℤ) → pos 0 <ℤ w → w ≡ k +ℤ (l +ℤ pos 0) → k ≤ℤ pos 0 → l ≤ℤ pos 0 → ⊥
-    none w k l h e p q = omega (arith, ints)
 
 -- the volume of a tetrahedron, by the determinants that its weights are made of
 pub volume_is : (a b c d : Pt) → volume a b c d ≡ det b c d -ℤ det a c d +ℤ det a b d -ℤ det a b c

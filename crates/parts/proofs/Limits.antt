@@ -1,5 +1,5 @@
 -- What the tests of how far points reach say.
-use Rattle.std.proofs.Common.{◌≡◌, ℕ, ◌≤◌, Bool, true, false, ◌&&◌, leb, List, nat_abs, Decides, MatchBool, sym, refl}
+use Rattle.std.proofs.Common.{ℕ, ◌≤◌, ◌&&◌, leb, List, nat_abs, Decides, refl}
 use Rattle.std.specs.List.{AllByRecursion}
 use Rattle.std.proofs.lemmas.Bool.{leb-true, le-leb}
 use Rattle.std.proofs.lemmas.Bool.Decides.{Decides-and, Decides-like}
@@ -19,12 +19,3 @@ decides_near n p =
 
 pub decides_all-near : (n : ℕ) (ps : List Pt) → Decides (are_near n ps) (AllByRecursion (Near n) ps)
 decides_all-near n ps = Decides-by_and (is_near n) (Near n) (are_near n) (decides_near n) refl (λ p qs. refl) ps
-
--- a test that says whether a point is near says what the test here says
-pub near_is : (n : ℕ) (p : Pt) (r : Bool) → MatchBool r (Near n p) (Near n p → ⊥) → r ≡ is_near n p
-near_is n p true h = sym ((decides_near n p).1 h)
-near_is n p false h = go (is_near n p) refl
-  where
-    go : (b : Bool) → is_near n p ≡ b → false ≡ b
-    go true e = absurd (h ((decides_near n p).0 e))
-    go false e = refl
