@@ -1,11 +1,13 @@
--- Fractions compared by cross products: the order is total.
-use Rattle.std.specs.Prelude.{◌≡◌, ℕ, ◌*◌, ◌<◌}
-use Rattle.std.proofs.Common.{refl, sym, ap, ◌∙◌, ap₂, mul_right_comm}
+-- Fractions compared by cross products: the order is total and transitive.
+use Rattle.std.specs.Prelude.{◌≡◌, ℕ, ◌*◌, ◌<◌, ◌≤◌, true, false, not, nat_lt}
+use Rattle.std.proofs.Common.{refl, sym, ap, ◌∙◌, ap₂, mul_right_comm, mul-le-mul_right, le_of_mul-le-mul_right, arith}
+use Rattle.std.proofs.lemmas.Bool.Decides.{nat_tests}
 use Rattle.std.proofs.Math.Nat.{mul-lt-mul_of_pos_right}
 use Rattle.std.specs.declared.cmp.Ordering.{Ordering}
 use Rattle.std.specs.declared.cmp.Ordering.TheVariants.{Less, Equal, Greater}
-use Rattle.std.specs.Ordering.{nat_cmp, MatchOrdering}
+use Rattle.std.specs.Ordering.{nat_cmp, MatchOrdering, ordering_reverse, is_eq, eq_by_cmp, flip_args}
 use Rattle.std.specs.Cmp.{IsTotalOrder, nat_cmp_total, ranked, nat_cmp_is}
+use Rattle.exact.specs.declared.gap.Gap.{Gap}
 use Rattle.exact.specs.Terms.{crossed}
 
 scaled_at : (a b k : ℕ) → 0 < k → (r : Ordering) → MatchOrdering r (a < b) (a ≡ b) (b < a) → MatchOrdering r (a * k < b * k) (a * k ≡ b * k) (b * k < a * k)
@@ -45,3 +47,33 @@ crossed_total = record {
   trans = λ g h k. chained g.p g.q h.p h.q k.p k.q g.over h.over k.over;
   congr = λ g h k. level g.p g.q h.p h.q k.p k.q g.over h.over;
 }
+
+eq_of_reverse : (r : Ordering) → is_eq (ordering_reverse r) ≡ is_eq r
+eq_of_reverse Less = refl
+eq_of_reverse Equal = refl
+eq_of_reverse Greater = refl
+
+-- ties are the same whichever gap comes first
+pub crossed_ties : (g h : Gap) → eq_by_cmp crossed g h ≡ eq_by_cmp (flip_args crossed) g h
+crossed_ties g h = ap is_eq (crossed_total.antisymm g h) ∙ eq_of_reverse (crossed h g)
+
+-- ---- the same of loose numbers
+-- p/q ≥ r/s ≥ t/u
+no_less : (p q r s t u : ℕ) → 0 < s → r * q ≤ p * s → t * s ≤ r * u → t * q ≤ p * u
+no_less p q r s t u h a b =
+    let a' : r * q * u ≤ p * s * u = mul-le-mul_right u a in
+    let b' : t * s * q ≤ r * u * q = mul-le-mul_right q b in
+    le_of_mul-le-mul_right {k = s} (omega (arith, mul_right_comm r q u, mul_right_comm p s u, mul_right_comm t s q)) h
+
+not_less : (a b : ℕ) → not (nat_lt a b) ≡ true → b ≤ a
+not_less a b h = grind (arith, nat_tests)
+
+less_not : (a b : ℕ) → b ≤ a → not (nat_lt a b) ≡ true
+less_not a b h = grind (arith, nat_tests)
+
+pub no_narrower_trans : (p q r s t u : ℕ) → 0 < s → not (nat_lt (p * s) (r * q)) ≡ true → not (nat_lt (r * u) (t * s)) ≡ true → not (nat_lt (p * u) (t * q)) ≡ true
+no_narrower_trans p q r s t u h a b = less_not (p * u) (t * q) (no_less p q r s t u h (not_less (p * s) (r * q) a) (not_less (r * u) (t * s) b))
+
+-- of two gaps one is no narrower than the other
+pub no_narrower_total : (p q r s : ℕ) → not (nat_lt (p * s) (r * q)) ≡ false → not (nat_lt (r * q) (p * s)) ≡ true
+no_narrower_total p q r s h = grind (arith, nat_tests)

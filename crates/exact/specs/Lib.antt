@@ -4,3 +4,4 @@ pub mod Terms
 pub mod Finds
 pub mod Crossed
 pub mod Texts
+pub mod Products

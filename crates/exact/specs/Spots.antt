@@ -1,5 +1,5 @@
 -- Corners and directions of the code as points of ℤ³, and what a limit on coordinates lets through.
-use Rattle.std.specs.Prelude.{◌≡◌, ℕ, Ok, Err, Result}
+use Rattle.std.specs.Prelude.{◌≡◌, ℕ, Some, None, Option, Ok, Err, Result}
 use Rattle.refusals.specs.declared.Refusal.{Refusal}
 use Rattle.refusals.specs.Slips.{direction_too_long}
 use Rattle.exact.specs.declared.corner.Spot.{Spot}
@@ -24,6 +24,11 @@ spot c = record { x = c.x; y = c.y; z = c.z }
 -- which way d points
 abbrev pub heading : Direction → Pt
 heading d = at d.along
+
+-- the point p itself where each coordinate is within ±n, and else nothing
+abbrev pub Kept : ℕ → Pt → Option Pt → Type 0
+Kept n p None = Near n p → ⊥
+Kept n p (Some q) = Near n p × (q ≡ p)
 
 -- the corner at p where each coordinate is within ±n, and else that n is too short
 abbrev pub Reached : {m : ℕ} → ℕ → Pt → Result (Spot m) TooFar → Type 0

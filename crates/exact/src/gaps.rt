@@ -1,9 +1,9 @@
 // Fractions and gaps made from their numbers, and the order of gaps.
 ghost use Rattle.std.specs.Prelude.{◌≡◌, refl};
-ghost use Rattle.std.specs.Ordering.{as_partial_cmp, eq_by_cmp};
-ghost use Rattle.std.specs.Cmp.{po, partial_equiv_from_equiv, eq_by_cmp_equiv};
-ghost use Rattle.exact.specs.Terms.{crossed, OverPositive, InBounds};
-ghost use Rattle.exact.specs.Crossed.{crossed_total};
+ghost use Rattle.std.specs.Ordering.{as_partial_cmp, eq_by_cmp, flip_args};
+ghost use Rattle.std.specs.Cmp.{po, back_total, partial_equiv_from_equiv, eq_by_cmp_equiv};
+ghost use Rattle.exact.specs.Terms.{crossed, narrower, OverPositive, InBounds};
+ghost use Rattle.exact.specs.Crossed.{crossed_total, crossed_ties};
 
 use crate::fraction::Fraction;
 use crate::gap::Gap;
@@ -33,27 +33,35 @@ impl Gap {
         }
         Some(Gap { p, q })
     }
+
+    // Whether this gap is narrower than another, as fractions: by cross products.
+    pub fn is_narrower(self, other: Gap) -> bool
+        ensures { result ≡ narrower self other }
+    {
+        other < self
+    }
 }
 
-// Gaps are compared as fractions, by cross products: 1/2 and 2/4 are equal.
+// Gaps are compared as fractions, by cross products: 1/2 and 2/4 are equal. A gap is its own score, of which the greater is the better, and
+// of two gaps the narrower is the better: so it is the greater.
 impl Ord for Gap {
-    ghost cmp = { crossed };
+    ghost cmp = { flip_args crossed };
 
-    ghost total = { crossed_total };
+    ghost total = { back_total crossed_total };
 
     ghost matches_partial_cmp = { λ x y. refl };
 
-    ghost matches_eq = { λ x y. refl };
+    ghost matches_eq = { crossed_ties };
 
     fn cmp(&self, other: &Gap) -> Ordering {
-        (self.p * other.q).cmp(&(other.p * self.q))
+        (other.p * self.q).cmp(&(self.p * other.q))
     }
 }
 
 impl PartialOrd for Gap {
-    ghost partial_cmp = { as_partial_cmp crossed };
+    ghost partial_cmp = { as_partial_cmp (flip_args crossed) };
 
-    ghost laws = { po crossed_total (λ x y. refl) };
+    ghost laws = { po (back_total crossed_total) crossed_ties };
 
     fn partial_cmp(&self, other: &Gap) -> Option<Ordering> {
         Some(self.cmp(other))

@@ -55,6 +55,7 @@ impl<T, F: Scoring<T>> Scoring<T> for Least<F> {
 }
 
 // The first corner that is farthest along a direction, by its place, with its product.
+#[tactic(auto, using(crate::proofs::Ranks::farthest_placed))]
 pub fn farthest(corners: &[Corner], direction: Direction) -> Option<Scored<usize, Product>>
     ensures { Farthest corners.now (heading direction) result }
 {
@@ -65,9 +66,5 @@ pub fn farthest(corners: &[Corner], direction: Direction) -> Option<Scored<usize
 pub fn narrowest(gaps: &[Gap]) -> Option<Scored<usize, Gap>>
     ensures { Narrowest gaps.now result }
 {
-    let best = first_best_of(gaps, Least(Itself))?;
-    Some(Scored {
-        candidate: best.candidate,
-        score: best.score.0,
-    })
+    first_best_of(gaps, Itself)
 }

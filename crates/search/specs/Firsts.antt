@@ -22,6 +22,12 @@ abbrev pub Step : {X : Type 0} → List X → Option X → List X → Type 0
 Step xs None ys = (xs ≡ []) × (ys ≡ [])
 Step xs (Some x) ys = xs ≡ x ∷ ys
 
+-- the order of scores with one below all of them, for what has no score
+abbrev pub unscored : {X : Type 0} → (X → X → Bool) → Option X → Option X → Bool
+unscored no_better None y = true
+unscored no_better (Some x) None = false
+unscored no_better (Some x) (Some y) = no_better x y
+
 -- x is not above y
 abbrev pub no_better : {X : Type 0} → (X → X → Ordering) → X → X → Bool
 no_better cmp x y = not (is_gt (cmp x y))
