@@ -61,19 +61,19 @@ fn gaps_as_fractions(rt: HostRuntime) -> Result<(), Fail> {
     let third = gap(1, 3)?;
     let four_ninths = gap(4, 9)?;
     assert!(rt;
-        third < four_ninths,
+        third.is_narrower(four_ninths),
         "1/3 is below 4/9, though both have the whole part 0"
     );
-    assert!(rt; four_ninths >= third);
+    assert!(rt; !four_ninths.is_narrower(third));
     let half = gap(1, 2)?;
     let two_quarters = gap(2, 4)?;
     assert!(rt;
-        half >= two_quarters && two_quarters >= half,
+        !half.is_narrower(two_quarters) && !two_quarters.is_narrower(half),
         "equal fractions tie"
     );
     let widest = gap(18000000000, 1)?;
     let least = gap(1, 120000000)?;
-    assert!(rt; least < widest && widest >= least);
+    assert!(rt; least.is_narrower(widest) && !widest.is_narrower(least));
     let reduced = gap(36, 81)?.lowest();
     assert_eq!(rt; reduced.p, 4);
     assert_eq!(rt; reduced.q, 9);

@@ -1,6 +1,7 @@
 // The first-best search at products and at gaps: ties, one candidate, none.
 use crate::made::{along, corner, gap};
-use exact::scores::{farthest, narrowest};
+use exact::scores::{Itself, farthest, narrowest};
+use search::listed::first_best_of;
 use std::test::Fail;
 
 #[test]
@@ -39,5 +40,16 @@ fn the_first_of_the_narrowest_gaps(rt: HostRuntime) -> Result<(), Fail> {
     assert_eq!(rt; found.candidate, 2);
     assert_eq!(rt; found.score.q, 3);
     assert!(rt; narrowest(&gaps[0..0]).is_none());
+    Ok(())
+}
+
+#[test]
+fn the_narrower_gap_is_the_better_score(rt: HostRuntime) -> Result<(), Fail> {
+    let gaps = [gap(4, 9)?, gap(1, 3)?, gap(1, 2)?];
+    let found = first_best_of(&gaps, Itself).ok_or("there are gaps")?;
+    assert_eq!(rt; found.candidate, 1);
+    let some = [None, Some(gap(1, 2)?), Some(gap(1, 3)?), None];
+    let best = first_best_of(&some, Itself).ok_or("there are places")?;
+    assert_eq!(rt; best.candidate, 2);
     Ok(())
 }
