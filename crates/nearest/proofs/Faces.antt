@@ -1,7 +1,7 @@
 -- The carrier of a simplex, from those of its faces.
 use Rattle.std.proofs.Common.{◌≡◌, ℕ, zero, suc, ◌*◌, ◌<◌, ◌≤◌, true, false, ◌⊎◌, List, [], ◌∷◌, length, get_or, ℤ, pos, ◌*ℤ◌, ◌≤ℤ◌, ◌<ℤ◌, Option, Some, None, MatchOption, sym, refl, ap, ◌∙◌, subst, subst₂, inl, inr, arith, w64, to_z, of_z}
 use Rattle.std.proofs.Math.Nat.{eq-or-lt_of_le}
-use lib.Signed.{lt_z}
+use lib.Signed.{lt_z, ≤ℤ_refl}
 use Rattle.std.specs.List.{ContainsAt as Has, AllByRecursion}
 use Rattle.std.proofs.ByRecursion.{All-weaker, all-has, all_has_itself, All-from_get_or}
 use Rattle.std.proofs.lemmas.Int.{ints}
@@ -141,6 +141,16 @@ module _ (c d : Carrier) (g h : Gap) (e : SquareOf (carried c) (pos g.p) c.exten
 
   pub other_gap : is_lt (crossed g h) ≡ false → NoLonger (carried d) (carried c)
   other_gap l = by_products (ge_from_not_lt (g.p * h.q) (h.p * g.q) l)
+
+-- the one that is no longer is the lesser of the two, as the first or as the second
+pub lesser_first : (c d : Carrier) → NoLonger (carried c) (carried d) → Lesser c d c
+lesser_first c d l = record { from = inl refl; left = ≤ℤ_refl _; right = l }
+
+pub lesser_second : (c d : Carrier) → NoLonger (carried d) (carried c) → Lesser c d d
+lesser_second c d l = record { from = inr refl; left = l; right = ≤ℤ_refl _ }
+
+-- so a test of their gaps tells the lesser, whichever of the two it calls narrower
+pub ruleset by_gaps = (lower_gap, other_gap, lesser_first, lesser_second)
 
 -- the best so far or one more, and the best so far where its weight is positive
 pub chosen_next : {vs : List Pair} {k : ℤ} (c d r : Carrier) → Carried vs d → Lesser c d r → Better k vs c r

@@ -1,5 +1,5 @@
 // What the search does with a carrier: measure it, compare it, and let it grow by a pair.
-ghost use Rattle.std.specs.Prelude.{◌≡◌, pos, ◌*ℤ◌, int_lt};
+ghost use Rattle.std.specs.Prelude.{◌≡◌, ◌≤◌, pos, ◌*ℤ◌, int_lt};
 ghost use Rattle.std.specs.List.{ContainsAt as Has};
 ghost use Rattle.integers.specs.Points.{dot as dotted};
 ghost use Rattle.convex.specs.Fractions.{SquareOf};
@@ -34,6 +34,7 @@ impl Carrier {
     pub(crate) fn gap(self) -> Gap
         ensures square { SquareOf (carried self) (pos result.p) self.extent }
         ensures over { pos result.q ≡ self.extent }
+        ensures high { result.p ≤ 17348050944 }
     {
         // Neither number is negative, by the fields of the carrier: `u64::try_from` would test it once more.
         let square = self.foot.dot(self.simplex.corner());
@@ -47,11 +48,9 @@ impl Carrier {
     pub(crate) fn shorter(self, other: Carrier) -> Carrier
         ensures { Lesser self other result }
     {
-        if other.gap() < self.gap() {
-            other
-        } else {
-            self
-        }
+        let mine = self.gap();
+        let its = other.gap();
+        if its.is_narrower(mine) { other } else { self }
     }
 
     // Whether the difference of w lies on the near side of the carried point.

@@ -1,4 +1,4 @@
-use Rattle.std.proofs.Common.{sym, subst}
+use Rattle.std.proofs.Common.{◌≤◌, nat_abs, sym, subst}
 use Rattle.integers.proofs.Order.{<ℤ→≤ℤ}
 use Rattle.integers.proofs.Overflow.{passed}
 use Rattle.convex.specs.Fractions.{SquareOf}
@@ -31,4 +31,5 @@ returns c =
     record {
       square = subst (λ t. SquareOf (carried s) t s.extent) (sym (cast_is _ _ (passed c.dot-square.result c.dot-square.type_inv) (gap-low s y _ h e))) (square_is s y _ h e);
       over = cast_is _ _ (extent-kept s) (<ℤ→≤ℤ (positive s));
+      high = subst (λ t. nat_abs t ≤ 17348050944) (sym (passed c.dot-square.result c.dot-square.type_inv)) (size_by e (size_gap s y h));
     }
