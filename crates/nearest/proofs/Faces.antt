@@ -180,8 +180,5 @@ module _ (vs : List Pair) (k : ℕ) {ws : List ℤ} (e : weights (betweens vs) �
 pub not_less_≤ : (x y : ℤ) → lt_z x y ≡ false → y ≤ℤ x
 not_less_≤ x y h = omega (arith, ints)
 
-pub not_more : (x y : ℤ) → y ≡ x → lt_z (pos 0) y ≡ false → x ≤ℤ pos 0
-not_more x y e h = subst (λ t. t ≤ℤ pos 0) e (not_less_≤ (pos 0) y h)
-
 pub less : (x y : ℤ) → lt_z x y ≡ true → x <ℤ y
 less x y h = omega (arith, ints)

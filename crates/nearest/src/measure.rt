@@ -59,11 +59,11 @@ fn report(found: Carrier) -> Measurement
     ensures { Told found result }
 {
     let gap = found.gap().lowest();
-    let difference = Fraction {
+    let fraction = Fraction {
         point: Point::from(found.foot),
         over: found.extent,
-    }
-    .lowest();
+    };
+    let difference = fraction.lowest();
     Measurement {
         difference,
         gap,

@@ -1,7 +1,7 @@
 // The point of the line, plane or space through one to four corner differences that is nearest to the origin: its weights, foot and extent.
 // The extents, and the foot of a triangle and of a solid, are closed forms of the sums by the weights: as a sum the foot of a triangle would
 // have a bound three times as large, within which its square does not fit 64 bits.
-ghost use Rattle.std.specs.Prelude.{◌≡◌, [], ◌∷◌};
+ghost use Rattle.std.specs.Prelude.{◌≡◌, ◌≤◌, [], ◌∷◌, unsigned_abs};
 ghost use Rattle.integers.specs.Points.{det};
 ghost use Rattle.convex.specs.Simplices.{normal as normal_of, volume as volume_of};
 ghost use Rattle.nearest.specs.Vectors.{to};
@@ -35,7 +35,8 @@ fn determinant(a: Pair, b: Pair, c: Pair) -> i64
 
 // Six times the volume of a solid, with a sign; zero where the four lie in one plane.
 fn volume(a: Pair, b: Pair, c: Pair, d: Pair) -> i64
-    ensures { result ≡ volume_of (between a) (between b) (between c) (between d) }
+    ensures value { result ≡ volume_of (between a) (between b) (between c) (between d) }
+    ensures size { unsigned_abs result ≤ 526848 }
 {
     normal(a, b, c).dot(d.difference()) - determinant(a, b, c)
 }

@@ -58,7 +58,8 @@ pub(crate) trait Span<const N: usize>: Copy {
 pub(crate) fn or_face<const N: usize, F: Span<N>>(best: &mut Option<Carrier>, weight: i64, face: F)
     ensures { Chosen weight (F.pairs face) best.old best.new }
 {
-    if weight > 0 {
+    let positive = weight > 0;
+    if positive {
         return;
     }
     let next = face.nearest();

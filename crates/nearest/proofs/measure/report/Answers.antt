@@ -5,8 +5,8 @@ use Rattle.nearest.proofs.Pairs.{positive}
 use Rattle.nearest.proofs.Tells.{extent-kept}
 use Rattle.nearest.proofs.measure.report.Goals as goal
 
-pub invariant_of-lowest : goal.invariant_of-lowest
-invariant_of-lowest c = record { positive = subst (λ w. pos 0 <ℤ w) (sym (extent-kept c.args.found)) (positive c.args.found) }
+pub invariant_of-fraction : goal.invariant_of-fraction
+invariant_of-fraction c = record { positive = subst (λ w. pos 0 <ℤ w) (sym (extent-kept c.args.found)) (positive c.args.found) }
 
 pub returns : goal.returns
 returns c =

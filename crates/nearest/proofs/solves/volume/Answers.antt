@@ -7,7 +7,7 @@ use Rattle.convex.specs.Simplices.{normal}
 use Rattle.convex.proofs.Sizes.{near_by, size_by}
 use Rattle.nearest.specs.Pairs.{between}
 use Rattle.nearest.proofs.Rooms.{roomy}
-use Rattle.nearest.proofs.Pairs.{near-between, near-normal, size_det, size_level}
+use Rattle.nearest.proofs.Pairs.{near-between, near-normal, size_det, size_level, size_volume}
 use Rattle.nearest.proofs.solves.volume.Goals as goal
 
 pub dot-requires : goal.dot-requires
@@ -23,4 +23,6 @@ pub overflow_sub-result : goal.overflow_sub-result
 overflow_sub-result c = fits w64 (env c) (var 0 ⊖ var 1) tt
 
 pub returns : goal.returns
-returns c = kept_is w64 (env c) (var 0 ⊖ var 1) tt ∙ ap₂ ◌-ℤ◌ (k-is c) c.determinant.ensures
+returns c =
+    let e = kept_is w64 (env c) (var 0 ⊖ var 1) tt ∙ ap₂ ◌-ℤ◌ (k-is c) c.determinant.ensures in
+    record { value = e; size = size_by e (size_volume c.args.a c.args.b c.args.c c.args.d) }
