@@ -1,3 +1,4 @@
 pub mod Blocks
 pub mod Reaches
+pub mod Walks
 pub mod Listings

@@ -28,11 +28,19 @@ impl<'a> BoxBook<'a> {
         BoxBook { entries }
     }
 
-    // The k-th from 0 of the entries that count for a part.
-    fn entry_of(&self, part: u16, k: usize) -> Option<&Entry>
-        ensures { option_copied result ≡ slice_get (filter (counts_for_part part) self.now.entries.now) k }
+    // The first of the entries that count for a part, and the k-th from 0, in one walk.
+    fn first_and_nth(&self, part: u16, k: usize) -> (Option<&Entry>, Option<&Entry>)
+        ensures first { option_copied result.0 ≡ slice_get (filter (counts_for_part part) self.now.entries.now) 0 }
+        ensures nth { option_copied result.1 ≡ slice_get (filter (counts_for_part part) self.now.entries.now) k }
     {
-        self.entries.iter().filter(|e| e.counts_for(part)).nth(k)
+        let mut counting = self.entries.iter().filter(|e| e.counts_for(part));
+        let Some(first) = counting.next() else {
+            return (None, None);
+        };
+        match k {
+            0 => (Some(first), Some(first)),
+            n => (Some(first), counting.nth(n - 1)),
+        }
     }
 }
 
@@ -54,9 +62,9 @@ impl<'a> PartBook for BoxBook<'a> {
 
     fn corner(&self, part: u16, k: usize) -> Result<Option<PartCorner>, Refusal> {
         let missing = Refusal::part_missing(Layer::BoxBook, part);
-        self.entry_of(part, 0).ok_or(missing)?;
+        let (first, entry) = self.first_and_nth(part, k / 8);
+        first.ok_or(missing)?;
         let octant = Octant::numbered(k);
-        let entry = self.entry_of(part, k / 8);
         Ok(entry.and_then(|e| e.vertex_for(part, octant)))
     }
 }

@@ -1,9 +1,13 @@
-use Rattle.std.proofs.Common.{rules, Ok, Err, Option, sym, ap, ◌∙◌}
+use Rattle.std.proofs.Common.{rules, ◌/◌, ◌%◌, Ok, Err, Option, sym, ap, ◌∙◌, arith}
 use Rattle.std.specs.Option.{option_and_then, option_copied}
+use Rattle.std.specs.List.{slice_get}
 use Rattle.std.specs.Result.{result_ok}
 use Rattle.std.proofs.lemmas.Result.{err_from_is_err_and}
+use Rattle.refusals.specs.declared.Layer.TheVariants.{BoxBook}
+use Rattle.refusals.specs.Slips.{part_missing}
 use Rattle.integers.specs.Points.{Pt}
 use Rattle.exact.specs.Spots.{spot}
+use Rattle.parts.specs.Boxes.{octants}
 use Rattle.parts.proofs.Options.{chained, refused_or}
 use Rattle.boxes.specs.declared.entry.Entry.{Entry}
 use Rattle.boxes.proofs.Reaches.{vertex_for_part}
@@ -13,12 +17,12 @@ use Rattle.boxes.proofs.book.BoxBookPartBook.corner.Goals as goal
 pub returns-in_err-ok_or : goal.returns-in_err-ok_or
 returns-in_err-ok_or c =
     let (s, is, from) = err_from_is_err_and c.from_residual.result c.from_residual.ensures.1 in
-    let (none, slip) = refused_or c.entry_of.result c.part_missing-missing.result c.in_err-ok_or.field-0.0 (sym c.ok_or.ensures.value ∙ c.in_err-ok_or.was) in
-    rw (is, from) (ap Err (slip ∙ c.part_missing-missing.ensures) ∙ sym (unlisted c.args.part c.args.k c.args.self.now.entries.now (sym c.entry_of.ensures ∙ ap option_copied none)))
+    let (none, slip) = refused_or c.first_and_nth.result.0 c.part_missing-missing.result c.in_err-ok_or.field-0.0 (sym c.ok_or.ensures.value ∙ c.in_err-ok_or.was) in
+    rw (is, from) (ap Err (slip ∙ c.part_missing-missing.ensures ∙ ap (part_missing BoxBook) {y = c.args.part} (omega arith)) ∙ sym (unlisted c.args.part c.args.k c.args.self.now.entries.now (sym c.first_and_nth.ensures.first ∙ ap option_copied none)))
 
 pub returns : goal.returns
 returns c =
     let corner : Entry → Option Pt = λ e. vertex_for_part c.args.part e c.numbered-octant.result in
-    ap Ok (chained (λ x. x.now) (spot {n = 5}) corner c.entry_of-entry.result c.and_then.result _ c.and_then.ensures (λ x q. search rules) ∙ ap (option_and_then corner) c.entry_of-entry.ensures)
+    ap Ok (chained (λ x. x.now) (spot {n = 5}) corner c.first_and_nth.result.1 c.and_then.result _ c.and_then.ensures (λ x q. search rules) ∙ ap (option_and_then corner) (c.first_and_nth.ensures.nth ∙ ap (slice_get _) {y = c.args.k / 8} (omega arith)))
     ∙ sym (corner_at c.args.part c.args.k c.args.self.now.entries.now c.in_ok-ok_or.field-0.now c.numbered-octant.result
-    (sym c.entry_of.ensures ∙ ap option_copied (c.ok_or.ensures.ok_part ∙ ap result_ok c.in_ok-ok_or.was)) c.numbered-octant.ensures)
+    (sym c.first_and_nth.ensures.first ∙ ap option_copied (c.ok_or.ensures.ok_part ∙ ap result_ok c.in_ok-ok_or.was)) (ap (slice_get octants) {x = c.args.k % 8} (omega arith) ∙ c.numbered-octant.ensures))
