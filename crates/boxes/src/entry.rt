@@ -19,33 +19,36 @@ pub struct Entry {
     pub high: Point,
 }
 
-// Whether no coordinate of the low corner is above that of the high one.
-fn is_upright(block: Block) -> bool
-    ensures { result ≡ each_at_most (spot block.low) (spot block.high) }
+// Whether no coordinate of a is above that of b.
+fn is_under(a: Point, b: Point) -> bool
+    ensures { result ≡ each_at_most (at a) (at b) }
 {
-    let (low, high) = (block.low, block.high);
-    low.x <= high.x && low.y <= high.y && low.z <= high.z
+    let (x, y, z) = (a.x <= b.x, a.y <= b.y, a.z <= b.z);
+    x & (y & z)
 }
 
 impl Entry {
-    // The box, where the entry counts for a part: it is the part's, no coordinate is beyond ±5, and low is nowhere above high.
-    fn block_for(self, part: u16) -> Option<Block>
-        ensures { option_map ends result ≡ (if counts_for_part part self then Some (at self.low, at self.high) else None) }
-    {
-        if self.part != part {
-            return None;
-        }
-        let low = PartCorner::try_from(self.low).ok()?;
-        let high = PartCorner::try_from(self.high).ok()?;
-        let block = Block { low, high };
-        is_upright(block).then_some(block)
-    }
-
-    // Whether the entry counts for a part.
+    // Whether the entry counts for a part: it is the part's, no coordinate is beyond ±5, and low is nowhere above high.
     pub fn counts_for(self, part: u16) -> bool
         ensures { result ≡ counts_for_part part self }
     {
-        self.block_for(part).is_some()
+        self.part == part
+            && self.low.is_within(5)
+            && self.high.is_within(5)
+            && is_under(self.low, self.high)
+    }
+
+    // The box, where the entry counts for a part.
+    fn block_for(self, part: u16) -> Option<Block>
+        ensures { option_map ends result ≡ (if counts_for_part part self then Some (at self.low, at self.high) else None) }
+    {
+        if !self.counts_for(part) {
+            return None;
+        }
+        // Both corners of an entry that counts are within ±5, so that neither is refused.
+        let low = PartCorner::try_from(self.low).ok()?;
+        let high = PartCorner::try_from(self.high).ok()?;
+        Some(Block { low, high })
     }
 
     // A corner of the box, or nothing where the entry does not count for the part.
