@@ -27,6 +27,10 @@ moved_near p q h k = (omega (arith, ints), omega (arith, ints), omega (arith, in
 moved_twice : (p o v : Pt) → Near 5 p → Near 9 (o +ᵛ v) → Near 14 (p +ᵛ o +ᵛ v)
 moved_twice p o v h k = (omega (arith, ints), omega (arith, ints), omega (arith, ints))
 
+-- a travel from within ±9 to within ±9
+pub travel_near : (o v : Pt) → Near 9 o → Near 9 (o +ᵛ v) → Near 18 v
+travel_near o v h k = (omega (arith, ints), omega (arith, ints), omega (arith, ints))
+
 -- the corners of a part in a pose
 pub posed-near : (s : Pose) (m : Part) → IfOk m (λ ps. AllByRecursion (Near 5) ps) → IfOk (posed s m) (λ ps. AllByRecursion (Near 14) ps)
 posed-near s (Ok ps) h =

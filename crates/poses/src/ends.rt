@@ -1,19 +1,22 @@
 // The two ends of a travel, by which a part's corners are moved.
-ghost use Rattle.exact.specs.Space.{at};
-ghost use Rattle.poses.specs.Ends.{SumOf, EndsOf};
+ghost use Rattle.std.specs.Prelude.{◌≡◌};
+ghost use Rattle.integers.specs.Points.{◌+ᵛ◌};
+ghost use Rattle.exact.specs.Space.{at, Within};
+ghost use Rattle.poses.specs.Ends.{EndsOf};
 
 use exact::corner::Shift;
 use exact::point::Point;
 
-// Two points added, or nothing where a sum does not fit, and so is far beyond ±9.
-fn sum(a: Point, b: Point) -> Option<Point>
-    ensures { SumOf (at a) (at b) result }
+// Two points added.
+fn sum(a: Point, b: Point) -> Point
+    requires { Within 18 a × Within 18 b }
+    ensures { at result ≡ at a +ᵛ at b }
 {
-    Some(Point {
-        x: a.x.checked_add(b.x)?,
-        y: a.y.checked_add(b.y)?,
-        z: a.z.checked_add(b.z)?,
-    })
+    Point {
+        x: a.x + b.x,
+        y: a.y + b.y,
+        z: a.z + b.z,
+    }
 }
 
 // Where a travel begins and where it ends.
@@ -28,10 +31,12 @@ impl Ends {
     pub(crate) fn new(offset: Point, travel: Point) -> Option<Ends>
         ensures { EndsOf (at offset) (at travel) result }
     {
-        let end = sum(offset, travel)?;
-        Some(Ends {
-            start: Shift::try_from(offset).ok()?,
-            end: Shift::try_from(end).ok()?,
-        })
+        let start = Shift::try_from(offset).ok()?;
+        // A travel beyond ±18 does not end within ±9 where it starts there.
+        if !travel.is_within(18) {
+            return None;
+        }
+        let end = Shift::try_from(sum(offset, travel)).ok()?;
+        Some(Ends { start, end })
     }
 }
