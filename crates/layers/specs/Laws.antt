@@ -1,14 +1,16 @@
--- What every part of a layer keeps of the parts below it: it has a corner, and none beyond ±5.
-use Rattle.std.specs.Prelude.{ℕ, ◌-◌, ◌<◌, true, false, cond, List, [], ◌∷◌, length, IfOk, Ok, Err, nat_le}
-use Rattle.std.proofs.Common.{arith}
-use Rattle.std.specs.List.{flat_map, AllByRecursion}
+-- What every part of a layer keeps of the parts below it: it has a corner, and none beyond ±5; and of a mirror, the order of its corners.
+use Rattle.std.specs.Prelude.{◌≡◌, ℕ, ◌-◌, ◌<◌, true, false, cond, List, [], ◌∷◌, length, IfOk, Ok, Err, Option, nat_le}
+use Rattle.std.proofs.Common.{sym, ap, ◌∙◌, arith}
+use Rattle.std.specs.Option.{option_map}
+use Rattle.std.specs.List.{flat_map, AllByRecursion, slice_get}
 use Rattle.std.proofs.ByRecursion.{All-map, All-weaker}
 use Rattle.std.proofs.lemmas.List.{length-map}
+use Rattle.std.proofs.lemmas.Option.{slice_get-map}
 use Rattle.std.proofs.lemmas.Int.{ints}
 use Rattle.std.proofs.lemmas.Bool.{cond_both}
 use Rattle.integers.specs.Points.{Pt}
 use Rattle.integers.specs.Space.{Near}
-use Rattle.parts.specs.Books.{Part}
+use Rattle.parts.specs.Books.{Part, corner_of}
 use Rattle.parts.specs.Limits.{are_near}
 use Rattle.parts.specs.Moves.{flipped}
 use Rattle.parts.proofs.Limits.{decides_all-near}
@@ -25,6 +27,11 @@ flipped-near p (a, b, c) = (omega (arith, ints), b, c)
 pub mirrored-near : (m : Part) → IfOk m (λ ps. AllByRecursion (Near 5) ps) → IfOk (mirrored m) (λ ps. AllByRecursion (Near 5) ps)
 mirrored-near (Ok ps) h = All-map (Near 5) flipped ps (All-weaker (Near 5) (λ p. Near 5 (flipped p)) flipped-near ps h)
 mirrored-near (Err s) h = tt
+
+-- the corners in the same order
+pub mirrored_corner : (m : Part) (k : ℕ) (c : Option Pt) → Ok c ≡ corner_of m k → Ok (option_map flipped c) ≡ corner_of (mirrored m) k
+mirrored_corner (Ok ps) k c e = let h : c ≡ slice_get ps k = cc in ap (λ o. Ok (option_map flipped o)) h ∙ ap Ok (sym (slice_get-map flipped ps k))
+mirrored_corner (Err s) k c e = absurd (cc)
 
 -- ---- the join
 -- what holds of the corners of every part of both books holds of the corners of every part of the join
