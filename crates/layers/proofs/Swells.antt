@@ -125,14 +125,18 @@ pub corner_roomy : (m n q : ℕ) (M : Part) (o : Option PartCorner) → Cleared 
 corner_roomy m n q (Ok ps) o h e c is = all-has (Roomy m) ps (spot c) h (nth_has ps q (spot c) (cc))
 corner_roomy m n q (Err s) o h e c is = absurd (cc)
 
--- the k-th corner is the one of number k mod 8 of the (k div 8)-th below, widened
+-- the k-th corner is the (k mod 8)-th of the eight that replace the (k div 8)-th below
+pub swelled_in_block : (m n k : ℕ) (M : Part) (c : Option Pt) → Cleared {X = Unit {0}} (Roomy m) n M (Ok tt) → Ok c ≡ corner_of M (k / 8) → Ok (in_block (widened m) c (k % 8)) ≡ corner_of (swelled m n M) k
+swelled_in_block m n k (Ok ps) c h e =
+    let is : c ≡ slice_get ps (k / 8) = cc in
+    rw (swelled-fits m n ps h) (ap Ok (ap (λ v. in_block (widened m) v (k % 8)) is ∙ sym (nth_blocks (widened m) (λ p. refl) ps (k / 8) (k % 8) (omega arith)) ∙ ap (slice_get (flat_map (widened m) ps)) (div-add-mod' k 8)))
+swelled_in_block m n k (Err s) c h e = absurd (cc)
+
+-- which is the one of number k mod 8 of the box around it
 pub swelled_corner : (m n k : ℕ) (M : Part) (o : Octant) (c : Option Pt) → Cleared {X = Unit {0}} (Roomy m) n M (Ok tt) → slice_get octants (k % 8) ≡ Some o → Ok c ≡ corner_of M (k / 8)
     → Ok (option_map (λ p. vertex (p -ᵛ cube m) (p +ᵛ cube m) o) c) ≡ corner_of (swelled m n M) k
-swelled_corner m n k (Ok ps) o c h is e =
-    let below : slice_get ps (k / 8) ≡ c = cc in
-    rw (swelled-fits m n ps h) (ap Ok (here c ∙ ap (λ v. in_block (widened m) v (k % 8)) (sym below) ∙ sym (nth_blocks (widened m) (λ p. refl) ps (k / 8) (k % 8) (omega arith)) ∙ ap (slice_get (flat_map (widened m) ps)) (div-add-mod' k 8)))
+swelled_corner m n k M o c h is e = ap Ok (here c) ∙ swelled_in_block m n k M c h e
   where
     here : (c : Option Pt) → option_map (λ p. vertex (p -ᵛ cube m) (p +ᵛ cube m) o) c ≡ in_block (widened m) c (k % 8)
     here None = refl
     here (Some p) = sym (box_nth (p -ᵛ cube m) (p +ᵛ cube m) (k % 8) o is)
-swelled_corner m n k (Err s) o c h is e = absurd (cc)
