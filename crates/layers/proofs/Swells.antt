@@ -1,5 +1,5 @@
 -- What the swell layer answers of a part: whether it fits, which corner is farthest, and the corners in their order.
-use Rattle.std.specs.Prelude.{◌≡◌, ℕ, ◌+◌, ◌/◌, ◌%◌, ◌≤◌, Bool, true, false, List, [], ◌∷◌, ◌++◌, ℤ, pos, ◌+ℤ◌, ◌-ℤ◌, neg_ℤ, ◌≤ℤ◌, Some, Ok, Err, Decides, None, Option, ◌≢◌, unsigned_abs, refl}
+use Rattle.std.specs.Prelude.{◌≡◌, ℕ, ◌+◌, ◌*◌, ◌/◌, ◌%◌, ◌≤◌, Bool, true, false, List, [], ◌∷◌, ◌++◌, length, ℤ, pos, ◌+ℤ◌, ◌-ℤ◌, neg_ℤ, ◌≤ℤ◌, Some, Ok, Err, Decides, None, Option, Result, ◌≢◌, unsigned_abs, refl}
 use Rattle.std.proofs.Common.{sym, ap, ◌∙◌, div-add-mod', arith}
 use Rattle.std.specs.Option.{option_map, ForSome}
 use Rattle.std.specs.List.{flat_map, AllByRecursion, slice_get}
@@ -125,12 +125,21 @@ pub corner_roomy : (m n q : ℕ) (M : Part) (o : Option PartCorner) → Cleared 
 corner_roomy m n q (Ok ps) o h e c is = all-has (Roomy m) ps (spot c) h (nth_has ps q (spot c) (cc))
 corner_roomy m n q (Err s) o h e c is = absurd (cc)
 
+refused : (s : Refusal) → ◌≡◌ {A = Result (Unit {0}) Refusal} (Ok tt) (Err s) → ⊥
+refused s e = let z : ◌≡◌ {A = ℕ} 0 1 = cc in omega arith
+
+eight : (m : ℕ) (p : Pt) → length (widened m p) ≡ 8
+eight m p = refl
+
+split : (k : ℕ) → (k / 8) * 8 + k % 8 ≡ k
+split k = div-add-mod' k 8
+
 -- the k-th corner is the (k mod 8)-th of the eight that replace the (k div 8)-th below
 pub swelled_in_block : (m n k : ℕ) (M : Part) (c : Option Pt) → Cleared {X = Unit {0}} (Roomy m) n M (Ok tt) → Ok c ≡ corner_of M (k / 8) → Ok (in_block (widened m) c (k % 8)) ≡ corner_of (swelled m n M) k
 swelled_in_block m n k (Ok ps) c h e =
     let is : c ≡ slice_get ps (k / 8) = cc in
-    rw (swelled-fits m n ps h) (ap Ok (ap (λ v. in_block (widened m) v (k % 8)) is ∙ sym (nth_blocks (widened m) (λ p. refl) ps (k / 8) (k % 8) (omega arith)) ∙ ap (slice_get (flat_map (widened m) ps)) (div-add-mod' k 8)))
-swelled_in_block m n k (Err s) c h e = absurd (cc)
+    rw (swelled-fits m n ps h) (ap Ok (ap (λ v. in_block (widened m) v (k % 8)) is ∙ sym (nth_blocks (widened m) (eight m) ps (k / 8) (k % 8) (omega arith)) ∙ ap (slice_get (flat_map (widened m) ps)) (split k)))
+swelled_in_block m n k (Err s) c h e = absurd (refused s h)
 
 -- which is the one of number k mod 8 of the box around it
 pub swelled_corner : (m n k : ℕ) (M : Part) (o : Octant) (c : Option Pt) → Cleared {X = Unit {0}} (Roomy m) n M (Ok tt) → slice_get octants (k % 8) ≡ Some o → Ok c ≡ corner_of M (k / 8)
