@@ -1,4 +1,3 @@
-pub mod Blocks
 pub mod Reaches
 pub mod Walks
 pub mod Listings

@@ -65,6 +65,7 @@ impl<'a> PartBook for BoxBook<'a> {
         let (first, entry) = self.first_and_nth(part, k / 8);
         first.ok_or(missing)?;
         let octant = Octant::numbered(k);
-        Ok(entry.and_then(|e| e.vertex_for(part, octant)))
+        // What the walk finds counts for the part, so that its box is made without a second test.
+        Ok(entry.map(|e| e.vertex(octant)))
     }
 }
